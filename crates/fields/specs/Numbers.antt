@@ -1,6 +1,6 @@
 -- Numbers in lists of bytes. 01: "All log numbers are little-endian"; slips are big-endian. One definition for every width.
 use Prim.Native.Nat.{ℕ, zero, suc, _+_, _*_, _/_, _%_, _<_}
-use mathlib.Core.Bool.{Bool, true, false}
+use mathlib.Core.Bool.{Bool, true, _&&_}
 use mathlib.Core.List.{List, [], _∷_, reverse}
 use lib.ListN.{take, drop, getD, replicate}
 use lib.Dec.{eqb}
@@ -38,11 +38,7 @@ big w s at = val (reverse (part w s at))
 abbrev pub zeros : ℕ → List ℕ
 zeros n = replicate n 0
 
-abbrev pub both : Bool → Bool → Bool
-both true b = b
-both false b = false
-
 -- whether every byte is zero
 unfoldable pub allZero : List ℕ → Bool
 allZero [] = true
-allZero (x ∷ xs) = both (eqb x 0) (allZero xs)
+allZero (x ∷ xs) = eqb x 0 && allZero xs

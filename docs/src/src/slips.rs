@@ -106,7 +106,11 @@ pub fn plain_slips(bundle: &[u8]) -> Result<Vec<PlainSlip>, Refusal> {
         if entries.windows(2).any(|two| two[0].start >= two[1].start) {
             return Err(refused(number::ORDER));
         }
-        slips.push(PlainSlip { start, desk, entries });
+        slips.push(PlainSlip {
+            start,
+            desk,
+            entries,
+        });
         start += bytes.len();
     }
     Ok(slips)
@@ -253,8 +257,8 @@ fn judge_slip(bundle: &[u8], start: usize, desk_before: Option<u8>) -> Result<us
     Ok(end)
 }
 
-/// Lets the slips meet the next object. Every entry before the object before
-/// this one has been read, so an entry in front of this object is stray.
+/// Lets the slips meet the next object. The entries up to the object before
+/// have been read, so an entry that starts before this object is stray.
 fn meet(bundle: &[u8], mut places: Places, object: Entry) -> (Places, Option<Refusal>) {
     if let Some(start) = smallest_start(bundle, &places).filter(|s| *s < object.start) {
         return (places, Some(Refusal::new(number::STRAY, start as usize)));

@@ -1,0 +1,3 @@
+pub mod TypeList
+pub mod Objects
+pub mod Heads

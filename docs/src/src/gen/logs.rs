@@ -1,0 +1,421 @@
+//! Objects and logs, sound and damaged.
+
+use super::{frame, record, Rng};
+use crate::layout::*;
+use crate::object::{step, Answer};
+use crate::records::write_any;
+
+/// The numbers of the eleven types.
+pub const LISTED: [u32; 11] = [1, 3, 4, 50, 57, 62, 103, 120, 121, 122, 123];
+/// Foreign type numbers that are neighbours of listed ones, or far off.
+const FOREIGN: [u32; 14] = [
+    0,
+    2,
+    5,
+    49,
+    51,
+    58,
+    61,
+    102,
+    104,
+    119,
+    124,
+    9_999,
+    0x0100_0001,
+    u32::MAX,
+];
+
+/// A sound object of a type, without padding. Any type not listed is foreign.
+pub fn object(rng: &mut Rng, kind: u32) -> Vec<u8> {
+    if row(kind).is_none() {
+        return foreign_of(rng, kind);
+    }
+    let frame = frame(rng);
+    let record = record(rng, kind, &frame);
+    let mut bytes = vec![0; 2_048];
+    write_any(&record, &mut bytes).expect("a valid record and room enough");
+    let size = u32_at(&bytes, 8);
+    bytes.truncate(size as usize);
+    bytes
+}
+
+/// A sound foreign object, without padding.
+pub fn foreign(rng: &mut Rng) -> Vec<u8> {
+    let kind = rng.pick(&FOREIGN);
+    foreign_of(rng, kind)
+}
+
+fn foreign_of(rng: &mut Rng, kind: u32) -> Vec<u8> {
+    let size = match rng.below(4) {
+        0 => rng.from_to(16, 20),
+        1 => rng.from_to(16, 2_000),
+        _ => rng.from_to(16, 100),
+    };
+    let header_size = match rng.below(4) {
+        0 => 16,
+        1 => size,
+        _ => rng.from_to(16, size),
+    };
+    let mut bytes = rng.bytes(size);
+    put(&mut bytes, 0, &SIGNATURE);
+    put(&mut bytes, 4, &(header_size as u16).to_le_bytes());
+    put(&mut bytes, 8, &(size as u32).to_le_bytes());
+    put(&mut bytes, 12, &kind.to_le_bytes());
+    bytes
+}
+
+/// An object with its padding behind it.
+pub fn padded(mut object: Vec<u8>) -> Vec<u8> {
+    object.resize(object.len().next_multiple_of(4), 0);
+    object
+}
+
+/// A sound object of any type, with padding; one in five is foreign.
+fn piece(rng: &mut Rng) -> Vec<u8> {
+    if rng.once_in(5) {
+        return padded(foreign(rng));
+    }
+    let kind = rng.pick(&LISTED);
+    padded(object(rng, kind))
+}
+
+/// A sound log of so many objects.
+pub fn sound_log(rng: &mut Rng, count: usize) -> Vec<u8> {
+    (0..count).flat_map(|_| piece(rng)).collect()
+}
+
+/// A sound log of at least so many bytes, for long runs. Quick to make: a few
+/// hundred objects come again and again in changing order.
+pub fn long_log(rng: &mut Rng, length: usize) -> Vec<u8> {
+    let pieces: Vec<Vec<u8>> = (0..300).map(|_| piece(rng)).collect();
+    let mut log = Vec::with_capacity(length + 2_048);
+    while log.len() < length {
+        log.extend_from_slice(&pieces[rng.below(pieces.len())]);
+    }
+    log
+}
+
+/// One way to damage a log.
+#[derive(Clone, Copy, Debug, PartialEq, Eq)]
+pub enum Damage {
+    /// A signature byte is changed.
+    Signature,
+    /// Object size 0 to 15.
+    SmallSize,
+    /// An object size its type does not allow, often next to one it does.
+    WrongSize,
+    /// An object size just below 2^32.
+    TopSize,
+    /// A foreign object whose start and size wrap in 32 bits.
+    WrapSize,
+    /// A header size that is not allowed.
+    HeaderSize,
+    /// A header version that is not 1.
+    HeaderVersion,
+    /// A padding byte is set.
+    Padding,
+    /// Time unit neither 1 nor 2.
+    Unit,
+    /// A reserved byte is set.
+    Reserved,
+    /// Structure length not 32.
+    StructureLength,
+    /// Frame length not size minus 64.
+    FrameLength,
+    /// Data count above 254 or above byte count.
+    DataCount,
+    /// An f64 that breaks its rule.
+    ExactRate,
+    /// Another type number on the same bytes.
+    Kind,
+    /// Any byte of an object or its padding is changed.
+    AnyByte,
+    /// The log is cut off somewhere.
+    CutShort,
+    /// 1 to 15 bytes stand behind the last object.
+    LooseEnd,
+}
+
+/// Every way to damage a log.
+#[rustfmt::skip]
+pub const DAMAGES: [Damage; 18] = [
+    Damage::Signature, Damage::SmallSize, Damage::WrongSize, Damage::TopSize,
+    Damage::WrapSize, Damage::HeaderSize, Damage::HeaderVersion, Damage::Padding,
+    Damage::Unit, Damage::Reserved, Damage::StructureLength, Damage::FrameLength,
+    Damage::DataCount, Damage::ExactRate, Damage::Kind, Damage::AnyByte,
+    Damage::CutShort, Damage::LooseEnd,
+];
+
+impl Damage {
+    /// The numbers that the walk of a log with this one damage can give. Empty
+    /// where the log may also stay sound.
+    pub fn numbers(self) -> &'static [u8] {
+        match self {
+            Damage::Signature => &[2],
+            Damage::SmallSize | Damage::WrongSize => &[3],
+            Damage::TopSize => &[3, 5],
+            Damage::WrapSize => &[5],
+            Damage::HeaderSize | Damage::HeaderVersion => &[4],
+            Damage::Padding => &[6],
+            Damage::Unit => &[7],
+            Damage::Reserved => &[8],
+            Damage::StructureLength | Damage::FrameLength => &[9],
+            Damage::DataCount | Damage::ExactRate => &[9],
+            Damage::LooseEnd => &[1],
+            Damage::Kind | Damage::AnyByte | Damage::CutShort => &[],
+        }
+    }
+
+    /// A type that this damage can befall.
+    fn kind(self, rng: &mut Rng) -> u32 {
+        let foreign = rng.pick(&FOREIGN);
+        let listed = rng.pick(&LISTED);
+        match self {
+            Damage::WrapSize => foreign,
+            Damage::WrongSize | Damage::HeaderVersion | Damage::Unit => listed,
+            Damage::Reserved => rng.pick(&[3, 50, 57, 62, 120, 121]),
+            Damage::StructureLength | Damage::FrameLength => rng.pick(&LISTED[7..]),
+            Damage::DataCount => 50,
+            Damage::ExactRate => 57,
+            Damage::Padding => rng.pick(&[50, 120, 121, 122, 123, foreign]),
+            _ => rng.pick(&[listed, listed, listed, foreign]),
+        }
+    }
+
+    /// Can this very object be damaged so? Only some sizes have padding, and
+    /// only one LIN message has an exact rate.
+    fn fits(self, object: &[u8]) -> bool {
+        match self {
+            Damage::Padding => !object.len().is_multiple_of(4),
+            Damage::ExactRate => object.len() == 184,
+            _ => true,
+        }
+    }
+
+    /// Damages an object (padding included) that starts here in its log.
+    fn befall(self, rng: &mut Rng, piece: &mut [u8], start: usize) {
+        let (size, kind) = (u32_at(piece, 8), u32_at(piece, 12));
+        match self {
+            Damage::Signature => piece[rng.below(4)] ^= rng.nonzero(),
+            Damage::SmallSize => put_size(piece, rng.below(16) as u32),
+            Damage::WrongSize => put_size(piece, wrong_size(rng, kind, size)),
+            Damage::TopSize => put_size(piece, u32::MAX - rng.below(64) as u32),
+            Damage::WrapSize => put_size(piece, wrapping_size(rng, start)),
+            Damage::HeaderSize => {
+                let header_size = wrong_header_size(rng, kind, size);
+                put(piece, 4, &header_size.to_le_bytes());
+            }
+            Damage::HeaderVersion => put(piece, 6, &other(rng, 1).to_le_bytes()),
+            Damage::Padding => {
+                let at = rng.from_to(size as usize, piece.len() - 1);
+                piece[at] = rng.nonzero();
+            }
+            Damage::Unit => put(piece, 16, &wrong_unit(rng).to_le_bytes()),
+            Damage::Reserved => {
+                let reserved = row(kind).expect("a listed type").reserved;
+                piece[rng.pick(reserved)] = rng.nonzero();
+            }
+            Damage::StructureLength => put(piece, 32, &other(rng, 32).to_le_bytes()),
+            Damage::FrameLength => {
+                let length = other(rng, u16_at(piece, 54));
+                put(piece, 54, &length.to_le_bytes());
+            }
+            Damage::DataCount => break_counts(rng, piece),
+            Damage::ExactRate => put(piece, 168, &wrong_rate(rng).to_le_bytes()),
+            Damage::Kind => put(piece, 12, &other_kind(rng, kind).to_le_bytes()),
+            Damage::AnyByte => piece[rng.below(piece.len())] ^= rng.nonzero(),
+            Damage::CutShort | Damage::LooseEnd => {}
+        }
+    }
+}
+
+fn put_size(piece: &mut [u8], size: u32) {
+    put(piece, 8, &size.to_le_bytes());
+}
+
+/// A u16 unlike this one, often close to it.
+fn other(rng: &mut Rng, value: u16) -> u16 {
+    let wrong = match rng.below(3) {
+        0 => value.wrapping_add(1),
+        1 => value.wrapping_sub(1),
+        _ => rng.number() as u16,
+    };
+    if wrong == value {
+        !value
+    } else {
+        wrong
+    }
+}
+
+fn wrong_size(rng: &mut Rng, kind: u32, size: u32) -> u32 {
+    let sizes = row(kind).expect("a listed type").sizes;
+    loop {
+        let wrong = match rng.below(5) {
+            0 => size.wrapping_add(rng.from_to(1, 8) as u32),
+            1 => size.wrapping_sub(rng.from_to(1, 8) as u32),
+            2 => rng.pick(&[63, 1_677, 36, 48, 52, 60, 164, 168, 184, 330, 332]),
+            3 => rng.from_to(16, 1_700) as u32,
+            _ => rng.number() as u32,
+        };
+        if !sizes.allow(wrong) {
+            return wrong;
+        }
+    }
+}
+
+/// A size near 2^32. Added in 32 bits to an object's start (or with its
+/// padding alone) it gives a small number.
+fn wrapping_size(rng: &mut Rng, start: usize) -> u32 {
+    let wrapping = (rng.below(200) as u32).wrapping_sub(start as u32);
+    if wrapping < 1 << 31 {
+        u32::MAX - rng.below(3) as u32
+    } else {
+        wrapping
+    }
+}
+
+fn wrong_header_size(rng: &mut Rng, kind: u32, size: u32) -> u16 {
+    if row(kind).is_some() {
+        return other(rng, HEADER_SIZE);
+    }
+    match rng.below(3) {
+        0 => rng.below(16) as u16,
+        1 => size as u16 + 1,
+        _ => rng.from_to(size as usize + 1, 65_535) as u16,
+    }
+}
+
+fn wrong_unit(rng: &mut Rng) -> u32 {
+    match rng.below(3) {
+        0 => rng.pick(&[0, 3, 4, 257, 258, 0x0100_0000, 0x0200_0000]),
+        1 => (rng.byte() as u32) << 8,
+        _ => rng.bits() as u32 | 4,
+    }
+}
+
+fn wrong_rate(rng: &mut Rng) -> u64 {
+    match rng.below(3) {
+        0 => 1 << 63 | rng.bits(),
+        1 => f64::INFINITY.to_bits() | rng.number(),
+        _ => rng.pick(&[
+            1 << 63,
+            f64::INFINITY.to_bits(),
+            f64::NAN.to_bits(),
+            u64::MAX,
+        ]),
+    }
+}
+
+fn break_counts(rng: &mut Rng, piece: &mut [u8]) {
+    let (byte_count, data_count) = match rng.below(3) {
+        0 => (rng.number() as u16, rng.from_to(255, 260) as u16),
+        1 => (65_535, rng.from_to(255, 65_535) as u16),
+        _ => {
+            let data_count = rng.from_to(1, 254);
+            (rng.below(data_count) as u16, data_count as u16)
+        }
+    };
+    put(piece, 54, &byte_count.to_le_bytes());
+    put(piece, 56, &data_count.to_le_bytes());
+}
+
+fn other_kind(rng: &mut Rng, kind: u32) -> u32 {
+    let (listed, foreign) = (rng.pick(&LISTED), rng.pick(&FOREIGN));
+    // Types that share sizes, so that the object may pass under another name.
+    let sibling = match kind {
+        1 => 103,
+        103 => 1,
+        120..=123 => rng.from_to(120, 123) as u32,
+        _ => kind ^ 1,
+    };
+    rng.pick(&[listed, foreign, sibling, kind | 0x0100_0000])
+}
+
+/// A log of so many objects and one more, damaged in this one way; with the
+/// place of the damage: the damaged object's start, or where the log was cut
+/// off, or where the loose end begins.
+pub fn damaged_log_at(rng: &mut Rng, count: usize, damage: Damage) -> (Vec<u8>, usize) {
+    let before = rng.below(count + 1);
+    let mut log = sound_log(rng, before);
+    let start = log.len();
+    let mut victim = loop {
+        let kind = damage.kind(rng);
+        let victim = object(rng, kind);
+        if damage.fits(&victim) {
+            break padded(victim);
+        }
+    };
+    damage.befall(rng, &mut victim, start);
+    log.extend(victim);
+    log.extend(sound_log(rng, count - before));
+    let length = log.len();
+    match damage {
+        Damage::CutShort => {
+            log.truncate(rng.below(length));
+            let cut = log.len();
+            (log, cut)
+        }
+        Damage::LooseEnd => {
+            let loose = rng.from_to(1, 15);
+            log.extend(&object(rng, 3)[..loose]);
+            (log, length)
+        }
+        _ => (log, start),
+    }
+}
+
+/// A log of so many objects and one more, damaged in this one way.
+pub fn damaged_log(rng: &mut Rng, count: usize, damage: Damage) -> Vec<u8> {
+    damaged_log_at(rng, count, damage).0
+}
+
+/// Any log of about so many objects: sound, damaged in one way or in several,
+/// cut short, or no log at all.
+pub fn any_log(rng: &mut Rng, count: usize) -> Vec<u8> {
+    let count = rng.below(count + 1);
+    match rng.below(8) {
+        0 | 1 => sound_log(rng, count),
+        2 => {
+            let mut log = sound_log(rng, count);
+            for _ in 0..rng.from_to(1, 4) {
+                let damage = rng.pick(&DAMAGES);
+                log.extend(damaged_log(rng, 0, damage));
+            }
+            log
+        }
+        3 => {
+            let mut log = sound_log(rng, count);
+            let length = rng.below(64);
+            log.extend(rng.bytes(length));
+            log
+        }
+        _ => {
+            let damage = rng.pick(&DAMAGES);
+            damaged_log(rng, count, damage)
+        }
+    }
+}
+
+/// A reading position: an object's start, next to one, at or around the end,
+/// or far past it, up to the largest number.
+pub fn position(rng: &mut Rng, log: &[u8]) -> usize {
+    let length = log.len();
+    match rng.below(10) {
+        0 => length,
+        1 => length.saturating_sub(rng.below(20)),
+        2 => length + rng.from_to(1, 20),
+        3 => usize::MAX - rng.below(20),
+        4 => rng.below(length + 1),
+        5 => an_object(rng, log).saturating_add(rng.below(4)),
+        _ => an_object(rng, log),
+    }
+}
+
+/// The start of one of the objects that a walk meets, or of its end.
+fn an_object(rng: &mut Rng, log: &[u8]) -> usize {
+    let mut starts = vec![0];
+    while let Answer::Object(object) = step(log, starts[starts.len() - 1]) {
+        starts.push(object.next);
+    }
+    rng.pick(&starts)
+}

@@ -1,0 +1,410 @@
+//! Records: offsets, read-write-read round trips, refused writes, rewrite.
+
+mod common;
+use common::*;
+use mshelovat_reference::gen::{self, Rng};
+use mshelovat_reference::layout::{row, Refusal};
+use mshelovat_reference::object::{foreign_view, walk};
+use mshelovat_reference::records::*;
+
+/// Field after field: its value and its offset and width by the paper.
+fn expect(object: &[u8], fields: &[(u64, usize, usize)]) {
+    for (value, offset, width) in fields {
+        let mut bytes = [0; 8];
+        bytes[..*width].copy_from_slice(&object[*offset..offset + width]);
+        assert_eq!(*value, u64::from_le_bytes(bytes), "offset {offset}");
+    }
+}
+
+/// The header's fields.
+fn expect_head(object: &[u8], head: &Head) {
+    let fields = [
+        (u64::from(head.unit), 16, 4),
+        (u64::from(head.client_index), 20, 2),
+        (u64::from(head.version), 22, 2),
+        (head.time, 24, 8),
+    ];
+    expect(object, &fields);
+}
+
+/// A sound object whose bytes from 20 on are all different from their
+/// neighbours, where they are free.
+fn counted(kind: u32, size: u32) -> Vec<u8> {
+    let mut object = bare(kind, size);
+    for (at, byte) in object.iter_mut().enumerate().take(size as usize).skip(20) {
+        *byte = (at * 7 % 251) as u8;
+    }
+    row(kind)
+        .unwrap()
+        .reserved
+        .iter()
+        .for_each(|at| object[*at] = 0);
+    match kind {
+        50 => object[56..58].copy_from_slice(&[200, 0]),
+        57 if size == 184 => object[175] = 0x40,
+        120..=123 => {
+            object[32..34].copy_from_slice(&[32, 0]);
+            object[54..56].copy_from_slice(&((size - 64) as u16).to_le_bytes());
+        }
+        _ => {}
+    }
+    object
+}
+
+fn record_at<R>(answer: Read<R>) -> R {
+    match answer {
+        Read::Record { record, .. } => record,
+        _ => panic!("no record"),
+    }
+}
+
+#[test]
+fn offsets_of_can() {
+    let object = counted(1, 48);
+    let r = record_at(read_can_message(&object, 0));
+    expect_head(&object, &r.head);
+    let fields = [
+        (r.channel as u64, 32, 2),
+        (r.flags as u64, 34, 1),
+        (r.dlc as u64, 35, 1),
+    ];
+    expect(&object, &fields);
+    expect(&object, &[(r.id as u64, 36, 4)]);
+    assert_eq!(r.data, object[40..48]);
+    let object = counted(3, 36);
+    let r = record_at(read_can_overload(&object, 0));
+    expect_head(&object, &r.head);
+    expect(&object, &[(r.channel as u64, 32, 2)]);
+    let object = counted(4, 60);
+    let r = record_at(read_can_statistic(&object, 0));
+    expect_head(&object, &r.head);
+    let fields = [
+        (r.channel as u64, 32, 2),
+        (r.bus_load as u64, 34, 2),
+        (r.standard_data as u64, 36, 4),
+        (r.extended_data as u64, 40, 4),
+        (r.standard_remote as u64, 44, 4),
+        (r.extended_remote as u64, 48, 4),
+        (r.error as u64, 52, 4),
+        (r.overload as u64, 56, 4),
+    ];
+    expect(&object, &fields);
+}
+
+#[test]
+fn offsets_of_flexray() {
+    let object = counted(50, 330);
+    let r = record_at(read_flexray_receive(&object, 0));
+    expect_head(&object, &r.head);
+    let fields = [
+        (r.channel as u64, 32, 2),
+        (r.version as u64, 34, 2),
+        (r.mask as u64, 36, 2),
+        (r.direction as u64, 38, 1),
+        (r.client as u64, 40, 4),
+        (r.cluster as u64, 44, 4),
+        (r.frame_id as u64, 48, 2),
+        (r.crc_a as u64, 50, 2),
+        (r.crc_b as u64, 52, 2),
+        (r.byte_count as u64, 54, 2),
+        (r.data_count as u64, 56, 2),
+        (r.cycle as u64, 58, 1),
+        (r.tag as u64, 60, 4),
+        (r.state as u64, 64, 4),
+        (r.flags as u64, 68, 4),
+    ];
+    expect(&object, &fields);
+    assert_eq!(r.data, object[76..330]);
+}
+
+#[test]
+fn offsets_of_lin_message() {
+    let object = counted(57, 164);
+    let r = record_at(read_lin_message(&object, 0));
+    expect_head(&object, &r.head);
+    let fields = [
+        (r.bus.start, 32, 8),
+        (r.bus.baud_rate as u64, 40, 4),
+        (r.bus.channel as u64, 44, 2),
+        (r.break_length, 48, 8),
+        (r.delimiter_length, 56, 8),
+        (r.supplier as u64, 64, 2),
+        (r.message as u64, 66, 2),
+        (r.nad as u64, 68, 1),
+        (r.id as u64, 69, 1),
+        (r.dlc as u64, 70, 1),
+        (r.checksum_model as u64, 71, 1),
+        (r.times[0], 72, 8),
+        (r.times[8], 136, 8),
+        (r.checksum as u64, 152, 2),
+        (r.direction as u64, 154, 1),
+        (r.simulated as u64, 155, 1),
+        (r.event_triggered as u64, 156, 1),
+        (r.index as u64, 157, 1),
+        (r.associated_id as u64, 158, 1),
+        (r.machine as u64, 159, 1),
+        (r.state as u64, 160, 1),
+    ];
+    expect(&object, &fields);
+    assert_eq!(r.data, object[144..152]);
+    assert_eq!(r.tail, LinTail::Nothing);
+}
+
+#[test]
+fn offsets_of_lin_tails_and_wake_up() {
+    let object = counted(57, 168);
+    let LinTail::Response { response_rate } = record_at(read_lin_message(&object, 0)).tail else {
+        panic!("a response rate");
+    };
+    expect(&object, &[(response_rate as u64, 164, 4)]);
+    let object = counted(57, 184);
+    let LinTail::Rates {
+        response_rate,
+        exact_header_rate,
+        stop_bit_offset,
+        response_stop_bit_offset,
+    } = record_at(read_lin_message(&object, 0)).tail
+    else {
+        panic!("rates");
+    };
+    let fields = [
+        (response_rate as u64, 164, 4),
+        (exact_header_rate, 168, 8),
+        (stop_bit_offset as u64, 176, 4),
+        (response_stop_bit_offset as u64, 180, 4),
+    ];
+    expect(&object, &fields);
+    let object = counted(62, 52);
+    let r = record_at(read_lin_wake_up(&object, 0));
+    expect_head(&object, &r.head);
+    let fields = [
+        (r.bus.start, 32, 8),
+        (r.bus.baud_rate as u64, 40, 4),
+        (r.bus.channel as u64, 44, 2),
+        (r.length_info as u64, 48, 1),
+        (r.signal as u64, 49, 1),
+        (r.external as u64, 50, 1),
+    ];
+    expect(&object, &fields);
+}
+
+#[test]
+fn offsets_of_ethernet_status() {
+    let object = counted(103, 48);
+    let r = record_at(read_ethernet_status(&object, 0));
+    expect_head(&object, &r.head);
+    let fields = [
+        (r.channel as u64, 32, 2),
+        (r.flags as u64, 34, 2),
+        (r.link_status as u64, 36, 1),
+        (r.ethernet_phy as u64, 37, 1),
+        (r.duplex as u64, 38, 1),
+        (r.mdi as u64, 39, 1),
+        (r.connector as u64, 40, 1),
+        (r.clock_mode as u64, 41, 1),
+        (r.pairs as u64, 42, 1),
+        (r.hardware_channel as u64, 43, 1),
+        (r.bit_rate as u64, 44, 4),
+    ];
+    expect(&object, &fields);
+}
+
+fn expect_frame(object: &[u8], r: &EthernetFrame) {
+    expect_head(object, &r.head);
+    let fields = [
+        (32, 32, 2),
+        (r.flags as u64, 34, 2),
+        (r.channel as u64, 36, 2),
+        (r.hardware_channel as u64, 38, 2),
+        (r.duration, 40, 8),
+        (r.checksum as u64, 48, 4),
+        (r.direction as u64, 52, 2),
+        (r.frame.len() as u64, 54, 2),
+        (r.handle as u64, 56, 4),
+    ];
+    expect(object, &fields);
+    assert_eq!(r.frame, &object[64..64 + r.frame.len()]);
+}
+
+#[test]
+fn offsets_of_ethernet_frames() {
+    for size in [64, 65, 125, 1_676] {
+        let object = counted(120, size);
+        expect_frame(&object, &record_at(read_ethernet_frame(&object, 0)));
+        let object = counted(121, size);
+        expect_frame(&object, &record_at(read_forwarded_frame(&object, 0)));
+        let object = counted(122, size);
+        let r = record_at(read_ethernet_error(&object, 0));
+        expect_frame(&object, &r.event);
+        expect(&object, &[(r.error_code as u64, 60, 4)]);
+        let object = counted(123, size);
+        let r = record_at(read_forwarded_error(&object, 0));
+        expect_frame(&object, &r.event);
+        expect(&object, &[(r.error_code as u64, 60, 4)]);
+    }
+}
+
+/// Every byte that is not reserved comes back: the object is read and written
+/// again from bytes that this writer did not make.
+#[test]
+fn every_free_byte_is_kept() {
+    let sizes: [(u32, &[u32]); 11] = [
+        (1, &[48]),
+        (3, &[36]),
+        (4, &[60]),
+        (50, &[330]),
+        (57, &[164, 168, 184]),
+        (62, &[52]),
+        (103, &[48]),
+        (120, &[64, 66, 300]),
+        (121, &[64, 67, 300]),
+        (122, &[64, 65, 1_676]),
+        (123, &[64, 65, 1_676]),
+    ];
+    for (kind, sizes) in sizes {
+        for size in sizes {
+            let log = counted(kind, *size);
+            assert_eq!(walk(&log), Ok(1), "{kind} {size}");
+            let mut out = vec![0xEE; log.len() + 3];
+            assert_eq!(rewrite(&log, &mut out), Ok(log.len()));
+            assert_eq!(out[..log.len()], log[..]);
+            assert_eq!(out[log.len()..], [0xEE; 3]);
+        }
+    }
+}
+
+#[test]
+fn write_read_round_trips() {
+    let mut rng = Rng(1);
+    for turn in 0..11_000 {
+        let kind = gen::LISTED[turn % 11];
+        let frame = gen::frame(&mut rng);
+        let record = gen::record(&mut rng, kind, &frame);
+        let mut out = vec![0xEE; 2_048];
+        let used = write_any(&record, &mut out).expect("valid and room enough");
+        assert_eq!(walk(&out[..used]), Ok(1));
+        assert!(out[used..].iter().all(|b| *b == 0xEE));
+        let answer = read_any(&out, 0);
+        assert_eq!(answer, Read::Record { record, next: used });
+        let mut exact = vec![0x11; used];
+        assert_eq!(write_any(&record, &mut exact), Ok(used));
+        assert_eq!(exact, out[..used]);
+        let mut short = vec![0x11; used - 1];
+        assert_eq!(write_any(&record, &mut short), refused(10, 0));
+        assert!(short.iter().all(|b| *b == 0x11));
+    }
+}
+
+/// What the paper says of a record, told apart from the writer.
+fn expected_number(record: &Record) -> Option<u8> {
+    let (unit, content) = match record {
+        Record::CanMessage(r) => (r.head.unit, true),
+        Record::CanOverload(r) => (r.head.unit, true),
+        Record::CanStatistic(r) => (r.head.unit, true),
+        Record::FlexRayReceive(r) => {
+            let holds = r.data_count <= 254 && r.data_count <= r.byte_count;
+            (r.head.unit, holds)
+        }
+        Record::LinMessage(r) => (r.head.unit, tail_holds(&r.tail)),
+        Record::LinWakeUp(r) => (r.head.unit, true),
+        Record::EthernetStatus(r) => (r.head.unit, true),
+        Record::EthernetFrame(r) | Record::ForwardedFrame(r) => {
+            (r.head.unit, r.frame.len() <= 1_612)
+        }
+        Record::EthernetError(r) | Record::ForwardedError(r) => {
+            (r.event.head.unit, r.event.frame.len() <= 1_612)
+        }
+        Record::Foreign(_) => return None,
+    };
+    match (unit, content) {
+        (1 | 2, true) => None,
+        (1 | 2, false) => Some(9),
+        _ => Some(7),
+    }
+}
+
+fn tail_holds(tail: &LinTail) -> bool {
+    match tail {
+        LinTail::Rates {
+            exact_header_rate, ..
+        } => {
+            let rate = f64::from_bits(*exact_header_rate);
+            rate.is_finite() && rate.is_sign_positive()
+        }
+        _ => true,
+    }
+}
+
+#[test]
+fn any_records_are_judged() {
+    let mut rng = Rng(2);
+    let mut met = [0; 12];
+    for turn in 0..11_000 {
+        let kind = gen::LISTED[turn % 11];
+        let length = rng.from_to(1_600, 1_620);
+        let frame = rng.bytes(length);
+        let record = gen::any_record(&mut rng, kind, &frame);
+        let mut out = vec![0x11; rng.below(2_000)];
+        let before = out.clone();
+        match (expected_number(&record), write_any(&record, &mut out)) {
+            (Some(number), answer) => {
+                assert_eq!(answer, refused(number, 0));
+                assert_eq!(out, before);
+                met[number as usize] += 1;
+            }
+            (None, Ok(used)) => {
+                assert_eq!(read_any(&out, 0), Read::Record { record, next: used });
+            }
+            (None, answer) => {
+                assert_eq!(answer, refused(10, 0));
+                assert_eq!(out, before);
+                met[10] += 1;
+            }
+        }
+    }
+    assert!(met[7] > 0 && met[9] > 0 && met[10] > 0, "{met:?}");
+}
+
+#[test]
+fn foreign_round_trips() {
+    let mut rng = Rng(3);
+    for _ in 0..2_000 {
+        let object = gen::foreign(&mut rng);
+        let mut out = vec![0x11; 2_048];
+        let used = write_foreign(&object, &mut out).expect("foreign");
+        assert_eq!(out[..used], gen::padded(object.clone()));
+        assert_eq!(foreign_view(&out, 0), object);
+        let record = Record::Foreign(&object);
+        assert_eq!(read_any(&out, 0), Read::Record { record, next: used });
+    }
+}
+
+/// Answer and output of a rewrite into so many bytes.
+fn rewritten(log: &[u8], length: usize) -> (Result<usize, Refusal>, Vec<u8>) {
+    let mut out = vec![0x11; length];
+    (rewrite(log, &mut out), out)
+}
+
+#[test]
+fn rewrite_keeps_the_log_or_changes_nothing() {
+    let mut rng = Rng(4);
+    for _ in 0..3_000 {
+        let log = gen::any_log(&mut rng, 6);
+        let short = log.len().saturating_sub(1);
+        let (answer, out) = rewritten(&log, log.len() + 5);
+        match walk(&log) {
+            Ok(_) => {
+                assert_eq!(answer, Ok(log.len()));
+                assert_eq!(out[..log.len()], log[..]);
+                assert_eq!(out[log.len()..], [0x11; 5]);
+                if !log.is_empty() {
+                    assert_eq!(rewritten(&log, short), (refused(10, 0), vec![0x11; short]));
+                }
+            }
+            Err(refusal) => {
+                assert_eq!((answer, out), (Err(refusal), vec![0x11; log.len() + 5]));
+                assert_eq!(rewritten(&log, 0), (Err(refusal), vec![]));
+            }
+        }
+    }
+}
