@@ -1,3 +1,4 @@
 pub mod TypeList
 pub mod Objects
 pub mod Heads
+pub mod Layouts
