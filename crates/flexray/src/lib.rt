@@ -1,0 +1,8 @@
+// The FlexRay record of document 002: what refuses it, and its body read and written.
+mod receive;
+
+pub use receive::Receive;
+pub use receive::counts_ok;
+pub use receive::get_receive;
+pub use receive::put_receive;
+pub use receive::receive_fault;
