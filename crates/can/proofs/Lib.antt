@@ -1,0 +1,4 @@
+pub mod Bodies
+pub mod MessageLaws
+pub mod OverloadLaws
+pub mod StatisticLaws

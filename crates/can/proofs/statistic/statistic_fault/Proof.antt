@@ -1,0 +1,15 @@
+-- `can::statistic_fault` meets its contract: the code reads like the definition. Assumes nothing.
+use mathlib.Core.Path.{ap, _∙_}
+use mathlib.Core.Bool.{Bool}
+use borrow.Author.Needs.{needs}
+use Rattle.headers.specs.Tests.{first}
+use Rattle.can.specs.Statistic.{statisticFault}
+use Rattle.can.proofs.statistic.statistic_fault.Statement.{statement}
+use Rattle.can.proofs.statistic.statistic_fault.Tie as tie
+
+returns : tie.Need-returns
+unfolding statisticFault
+returns c = c .first .ensures ∙ ap (λ (ok : Bool). first 7 ok 0) (c .before .unit-ok .ensures)
+
+pub statistic-fault-spec : {M : Type 1} → statement M
+statistic-fault-spec = tie.close (tie.spec (λ c κs. search needs) (λ c κs. search needs) returns)

@@ -1,0 +1,61 @@
+-- 01, type 4: CAN statistic, 60 bytes. Offsets from the header's end.
+use Prim.Native.Nat.{ℕ, _<_, _^_}
+use mathlib.Core.Path.{_≡_}
+use mathlib.Core.Bool.{true}
+use mathlib.Core.List.{List, _++_}
+use Rattle.fields.specs.Numbers.{le, num}
+use Rattle.headers.specs.declared.header.Header.{Header}
+use Rattle.headers.specs.Header.{Fit}
+use Rattle.headers.specs.Tests.{first, unitOk}
+use Rattle.headers.specs.Layout.{Layout}
+use Rattle.can.specs.declared.statistic.Statistic.{Statistic}
+
+-- the six counters of frames
+unfoldable pub counters : Statistic → List ℕ
+counters r =
+    le 4 (r .«standard_data»)  --  4
+    ++ le 4 (r .«extended_data»)  --  8
+    ++ le 4 (r .«standard_remote»)  -- 12
+    ++ le 4 (r .«extended_remote»)  -- 16
+    ++ le 4 (r .errors)  -- 20
+    ++ le 4 (r .overloads)  -- 24
+
+unfoldable pub statistic : Statistic → List ℕ
+statistic r =
+    le 2 (r .channel)  --  0
+    ++ le 2 (r .load)  --  2 in 1/100 percent
+    ++ counters r  --  4
+
+unfoldable pub statisticOf : Header → List ℕ → Statistic
+statisticOf h b =
+    record {
+      header = h;
+      channel = num 2 b 0;
+      load = num 2 b 2;
+      «standard_data» = num 4 b 4;
+      «extended_data» = num 4 b 8;
+      «standard_remote» = num 4 b 12;
+      «extended_remote» = num 4 b 16;
+      errors = num 4 b 20;
+      overloads = num 4 b 24;
+    }
+
+-- 7 alone: no byte is reserved, and no value is refused
+unfoldable pub statisticFault : Header → List ℕ → ℕ
+statisticFault h b = first 7 (unitOk (h .unit)) 0
+
+pub record ValidStatistic (r : Statistic) : Type 0 where
+  pub header : Fit (r .header)
+  pub unit : unitOk (r .header .unit) ≡ true
+  pub channel : r .channel < 256 ^ 2
+  pub load : r .load < 256 ^ 2
+  pub «standard_data» : r .«standard_data» < 256 ^ 4
+  pub «extended_data» : r .«extended_data» < 256 ^ 4
+  pub «standard_remote» : r .«standard_remote» < 256 ^ 4
+  pub «extended_remote» : r .«extended_remote» < 256 ^ 4
+  pub errors : r .errors < 256 ^ 4
+  pub overloads : r .overloads < 256 ^ 4
+
+abbrev pub statisticLayout : Layout Statistic
+statisticLayout =
+    record { kind = 4; header = λ r. r .header; body = statistic; of = statisticOf; fault = statisticFault; Valid = ValidStatistic }

@@ -1,0 +1,50 @@
+// The CAN message, type 1.
+ghost use mathlib.Core.Path.{_≡_};
+ghost use Prim.Native.Nat.{_+_, _≤_};
+ghost use lib.ListN.{length};
+ghost use Rattle.fields.specs.Written.{Wrote};
+ghost use Rattle.can.specs.Message.{message, messageOf, messageFault};
+
+pub struct Message {
+    pub header: headers::Header,
+    pub channel: u16,
+    pub flags: u8,
+    pub dlc: u8,
+    pub id: u32,
+    pub bytes: [u8; 8],
+}
+
+// What refuses a message: 7, or 0 for nothing. Its body is never refused.
+pub fn message_fault(h: headers::Header, b: &[u8]) -> u32
+    ensures { λ r. ⌜ r ≡ messageFault h (now (b .entry)) ⌝ }
+{
+    headers::first(7, headers::unit_ok(h.unit), 0)
+}
+
+// The message of a header and a body.
+pub fn get_message(h: headers::Header, b: &[u8]) -> Message
+    requires { ⌜ 16 ≤ length (now b) ⌝ }
+    ensures { λ r. ⌜ r ≡ messageOf h (now (b .entry)) ⌝ }
+{
+    Message {
+        header: h,
+        channel: fields::get16(b, 0),
+        flags: fields::get8(b, 2),
+        dlc: fields::get8(b, 3),
+        id: fields::get32(b, 4),
+        bytes: fields::get8x8(b, 8),
+    }
+}
+
+// The body of a message, written at a place.
+pub fn put_message(out: &mut [u8], at: usize, r: Message)
+    requires { ⌜ at + 16 ≤ length (now out) ⌝ }
+    ensures { λ _. ⌜ Wrote at (message r) (now (out .entry)) (now (out .exit)) ⌝ }
+{
+    let bytes = r.bytes;
+    fields::put16(out, at, r.channel);
+    fields::put8(out, at + 2, r.flags);
+    fields::put8(out, at + 3, r.dlc);
+    fields::put32(out, at + 4, r.id);
+    fields::put8x8(out, at + 8, bytes);
+}

@@ -1,0 +1,40 @@
+// The CAN overload, type 3.
+ghost use mathlib.Core.Path.{_≡_};
+ghost use Prim.Native.Nat.{_+_, _≤_};
+ghost use lib.ListN.{length};
+ghost use Rattle.fields.specs.Written.{Wrote};
+ghost use Rattle.can.specs.Overload.{overload, overloadOf, overloadFault};
+
+pub struct Overload {
+    pub header: headers::Header,
+    pub channel: u16,
+}
+
+// What refuses an overload: 7, 8, or 0 for nothing.
+pub fn overload_fault(h: headers::Header, b: &[u8]) -> u32
+    requires { ⌜ 4 ≤ length (now b) ⌝ }
+    ensures { λ r. ⌜ r ≡ overloadFault h (now (b .entry)) ⌝ }
+{
+    let reserved = fields::all_zero(b, 2, 2);
+    headers::first(7, headers::unit_ok(h.unit), headers::first(8, reserved, 0))
+}
+
+// The overload of a header and a body.
+pub fn get_overload(h: headers::Header, b: &[u8]) -> Overload
+    requires { ⌜ 4 ≤ length (now b) ⌝ }
+    ensures { λ r. ⌜ r ≡ overloadOf h (now (b .entry)) ⌝ }
+{
+    Overload {
+        header: h,
+        channel: fields::get16(b, 0),
+    }
+}
+
+// The body of an overload, written at a place.
+pub fn put_overload(out: &mut [u8], at: usize, r: Overload)
+    requires { ⌜ at + 4 ≤ length (now out) ⌝ }
+    ensures { λ _. ⌜ Wrote at (overload r) (now (out .entry)) (now (out .exit)) ⌝ }
+{
+    fields::put16(out, at, r.channel);
+    fields::put_zeros(out, at + 2, 2);
+}

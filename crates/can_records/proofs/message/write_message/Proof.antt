@@ -1,0 +1,47 @@
+-- `can_records::write_message` meets its contract: refused, or header, body and padding; what is not refused is valid. Assumes nothing.
+use mathlib.Core.Path.{_≡_, refl, sym, ap}
+use Prim.Native.Nat.{ℕ, _+_}
+use native.Mathlib.Omega.{arith}
+use borrow.Author.Needs.{needs, length-unmapped, elem-fits-field}
+use mir.Syntax.{w8}
+use lib.ListN.{length}
+use Rattle.fields.specs.Numbers.{le}
+use Rattle.fields.proofs.Writing.{then}
+use Rattle.headers.specs.Header.{headerLength, head, header}
+use Rattle.can.specs.Message as can
+use Rattle.can.proofs.MessageLaws.{message-length}
+use Rattle.objects.specs.Kinds.{message}
+use Rattle.objects.specs.Items.{known}
+use Rattle.outcomes.proofs.Writing.{refused, refusal-is, Taken, taken, closed}
+use Rattle.can_records.proofs.message.write_message.Statement.{statement}
+use Rattle.can_records.proofs.message.write_message.Tie as tie
+
+returns : tie.Need-returns
+returns c =
+    let r = c .before .before .before .before .args .r in
+    refused (known message r) (refusal-is message r (ap (λ (n : ℕ). headerLength + n) (sym (message-length r))) _ (c .before .refuse .ensures)) (c .if1 .taken)
+
+put-header-requires : tie.Need-put-header-requires
+put-header-requires c κs = omega (arith, taken (c .before .before .refuse .ensures) (c .before .if1 .left) .room)
+
+put-message-requires : tie.Need-put-message-requires
+put-message-requires c κs = omega (arith, taken (c .before .before .before .before .before .before .refuse .ensures) (c .before .before .before .before .before .if1 .left) .room)
+
+close-requires : tie.Need-close-requires
+close-requires c κs = omega (arith, taken (c .before .before .before .before .before .before .before .before .before .before .refuse .ensures) (c .before .before .before .before .before .before .before .before .before .if1 .left) .room)
+
+returns-2 : tie.Need-returns-2
+unfolding header head le
+returns-2 c =
+    let s = c .before .before .before .before .before .before .before .before .before .before .before .before .before .before .before .before in
+    let r = s .args .r in
+    let f = c .before .before .before .before .before .before .before .before .before .before .before .before .before .refuse .ensures in
+    let m = c .before .before .before .before .before .before .before .before .before .before .before .before .if1 .left in
+    let g = s .good .0 .1 .1 in
+    let v : can.ValidMessage r = record { header = search (needs, g .0); unit = taken f m .unit; channel = g .1 .0 .1; flags = g .1 .1 .0 .1; dlc = g .1 .1 .1 .0 .1; id = g .1 .1 .1 .1 .0 .1; long = length-unmapped ℕ (r .bytes) 8 (g .1 .1 .1 .1 .1 .0 .1 .0 .1); bytes = λ i l. elem-fits-field w8 w8 (r .bytes) _ i (g .1 .1 .1 .1 .1 .0 .1 .1) tt .fits } in
+    closed message r (ap (λ (n : ℕ). headerLength + n) (sym (message-length r))) f m v (then (c .before .before .before .before .before .before .before .before .before .before .put-header .ensures) (c .before .before .before .before .before .before .put-message .ensures) refl) (c .before .before .close .ensures)
+
+pub write-message-spec : {M : Type 1} → statement M
+write-message-spec =
+    tie.close
+    (tie.spec (λ c. search needs) (λ c κs. search needs) returns (λ c. search needs) put-header-requires put-message-requires (λ c. search needs) close-requires (λ c. search needs) returns-2)

@@ -1,0 +1,46 @@
+-- `can_records::write_statistic` meets its contract: refused, or header, body and padding; what is not refused is valid. Assumes nothing.
+use mathlib.Core.Path.{_≡_, refl, sym, ap}
+use Prim.Native.Nat.{ℕ, _+_}
+use native.Mathlib.Omega.{arith}
+use borrow.Author.Needs.{needs}
+use lib.ListN.{length}
+use Rattle.fields.specs.Numbers.{le}
+use Rattle.fields.proofs.Writing.{then}
+use Rattle.headers.specs.Header.{headerLength, head, header}
+use Rattle.can.specs.Statistic as can
+use Rattle.can.proofs.StatisticLaws.{statistic-length}
+use Rattle.objects.specs.Kinds.{statistic}
+use Rattle.objects.specs.Items.{known}
+use Rattle.outcomes.proofs.Writing.{refused, refusal-is, Taken, taken, closed}
+use Rattle.can_records.proofs.statistic.write_statistic.Statement.{statement}
+use Rattle.can_records.proofs.statistic.write_statistic.Tie as tie
+
+returns : tie.Need-returns
+returns c =
+    let r = c .before .before .before .before .args .r in
+    refused (known statistic r) (refusal-is statistic r (ap (λ (n : ℕ). headerLength + n) (sym (statistic-length r))) _ (c .before .refuse .ensures)) (c .if1 .taken)
+
+put-header-requires : tie.Need-put-header-requires
+put-header-requires c κs = omega (arith, taken (c .before .before .refuse .ensures) (c .before .if1 .left) .room)
+
+put-statistic-requires : tie.Need-put-statistic-requires
+put-statistic-requires c κs = omega (arith, taken (c .before .before .before .before .before .before .refuse .ensures) (c .before .before .before .before .before .if1 .left) .room)
+
+close-requires : tie.Need-close-requires
+close-requires c κs = omega (arith, taken (c .before .before .before .before .before .before .before .before .before .before .refuse .ensures) (c .before .before .before .before .before .before .before .before .before .if1 .left) .room)
+
+returns-2 : tie.Need-returns-2
+unfolding header head le
+returns-2 c =
+    let s = c .before .before .before .before .before .before .before .before .before .before .before .before .before .before .before .before in
+    let r = s .args .r in
+    let f = c .before .before .before .before .before .before .before .before .before .before .before .before .before .refuse .ensures in
+    let m = c .before .before .before .before .before .before .before .before .before .before .before .before .if1 .left in
+    let g = s .good .0 .1 .1 in
+    let v : can.ValidStatistic r = record { header = search (needs, g .0); unit = taken f m .unit; channel = g .1 .0 .1; load = g .1 .1 .0 .1; «standard_data» = g .1 .1 .1 .0 .1; «extended_data» = g .1 .1 .1 .1 .0 .1; «standard_remote» = g .1 .1 .1 .1 .1 .0 .1; «extended_remote» = g .1 .1 .1 .1 .1 .1 .0 .1; errors = g .1 .1 .1 .1 .1 .1 .1 .0 .1; overloads = g .1 .1 .1 .1 .1 .1 .1 .1 .0 .1 } in
+    closed statistic r (ap (λ (n : ℕ). headerLength + n) (sym (statistic-length r))) f m v (then (c .before .before .before .before .before .before .before .before .before .before .put-header .ensures) (c .before .before .before .before .before .before .put-statistic .ensures) refl) (c .before .before .close .ensures)
+
+pub write-statistic-spec : {M : Type 1} → statement M
+write-statistic-spec =
+    tie.close
+    (tie.spec (λ c. search needs) (λ c κs. search needs) returns (λ c. search needs) put-header-requires put-statistic-requires (λ c. search needs) close-requires (λ c. search needs) returns-2)

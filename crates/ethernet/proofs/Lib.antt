@@ -1,0 +1,4 @@
+pub mod StatusLaws
+pub mod EventLaws
+pub mod FrameLaws
+pub mod ErrorLaws

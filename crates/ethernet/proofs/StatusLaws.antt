@@ -1,0 +1,94 @@
+-- The laws of the Ethernet status: what is written is read, and what no fault refuses is what is written. Assumes nothing.
+use mathlib.Core.Path.{_≡_, refl, sym, ap, _∙_}
+use mathlib.Core.List.{List}
+use Prim.Native.Nat.{ℕ, _+_}
+use native.Mathlib.Nat.{le-of-eq}
+use native.Mathlib.Omega.{arith}
+use lib.Dec.{lit≤}
+use lib.ListN.{length}
+use lib.Seq.{take-all}
+use Rattle.fields.specs.Numbers.{Bytes, num, le}
+use Rattle.fields.proofs.Numbers.{val-le}
+use Rattle.fields.proofs.Reading.{more, got, fits}
+use Rattle.headers.specs.declared.header.Header.{Header}
+use Rattle.headers.specs.Header.{headerLength, Fit}
+use Rattle.headers.specs.Types.{typeList, sizesIn, rowIn}
+use Rattle.headers.specs.Layout.{Sized, Lawful}
+use Rattle.headers.proofs.TypeList.{types-exact}
+use Rattle.headers.proofs.Heads.{clear, passes}
+use Rattle.ethernet.specs.declared.status.Status.{Status}
+use Rattle.ethernet.specs.Status.{status, statusOf, statusFault, ValidStatus, statusLayout}
+
+pub status-length : (r : Status) → length (status r) ≡ 16
+unfolding status le
+status-length r = refl
+
+-- what is written is read, and no fault refuses it
+module _ (r : Status) (v : ValidStatus r) where
+  pub status-back : statusOf (r .header) (status r) ≡ r
+  unfolding statusOf num status le
+  status-back = λ i. record {
+    header = r .header;
+    channel = val-le 2 (r .channel) (v .channel) i;
+    flags = val-le 2 (r .flags) (v .flags) i;
+    link = val-le 1 (r .link) (v .link) i;
+    phy = val-le 1 (r .phy) (v .phy) i;
+    duplex = val-le 1 (r .duplex) (v .duplex) i;
+    mdi = val-le 1 (r .mdi) (v .mdi) i;
+    connector = val-le 1 (r .connector) (v .connector) i;
+    clock = val-le 1 (r .clock) (v .clock) i;
+    pairs = val-le 1 (r .pairs) (v .pairs) i;
+    hardware = val-le 1 (r .hardware) (v .hardware) i;
+    bitrate = val-le 4 (r .bitrate) (v .bitrate) i;
+  }
+
+  pub status-no-fault : statusFault (r .header) (status r) ≡ 0
+  unfolding statusFault
+  status-no-fault = passes 7 0 (v .unit)
+
+-- what no fault refuses is what is written, and valid
+module _ (h : Header) (b : List ℕ) (f : Fit h) (bs : Bytes b) (s : Sized 103 b) (z : statusFault h b ≡ 0) where
+  long : length b ≡ 16
+  unfolding typeList sizesIn
+  long = let e : headerLength + length b ≡ 48 = types-exact 103 _ .0 s in omega arith
+
+  pub status-forth : status (statusOf h b) ≡ b
+  unfolding status statusOf
+  status-forth =
+      let g = got b bs 16 (le-of-eq (sym long)) in
+      let x = more (more (more (more (more (g 2 0 (lit≤ tt)) (g 2 2 (lit≤ tt)) refl) (g 1 4 (lit≤ tt)) refl) (g 1 5 (lit≤ tt)) refl) (g 1 6 (lit≤ tt)) refl) (g 1 7 (lit≤ tt)) refl in
+      let y = more (more (more (more (more x (g 1 8 (lit≤ tt)) refl) (g 1 9 (lit≤ tt)) refl) (g 1 10 (lit≤ tt)) refl) (g 1 11 (lit≤ tt)) refl) (g 4 12 (lit≤ tt)) refl in
+      y .is ∙ take-all 16 b (le-of-eq long)
+
+  pub status-valid : ValidStatus (statusOf h b)
+  unfolding statusOf statusFault
+  status-valid =
+      let k = fits b bs 16 (le-of-eq (sym long)) in
+      record {
+        header = f;
+        unit = clear _ _ _ z .0;
+        channel = k 2 0 (lit≤ tt);
+        flags = k 2 2 (lit≤ tt);
+        link = k 1 4 (lit≤ tt);
+        phy = k 1 5 (lit≤ tt);
+        duplex = k 1 6 (lit≤ tt);
+        mdi = k 1 7 (lit≤ tt);
+        connector = k 1 8 (lit≤ tt);
+        clock = k 1 9 (lit≤ tt);
+        pairs = k 1 10 (lit≤ tt);
+        hardware = k 1 11 (lit≤ tt);
+        bitrate = k 4 12 (lit≤ tt);
+      }
+
+pub status-laws : Lawful statusLayout
+unfolding typeList sizesIn rowIn statusOf
+status-laws = record {
+  known = refl;
+  fit = λ r v. v .header;
+  same-header = λ h b. refl;
+  sized = λ r v. types-exact 103 _ .1 (ap (λ (n : ℕ). headerLength + n) (status-length r));
+  back = status-back;
+  forth = status-forth;
+  no-fault = status-no-fault;
+  valid = status-valid;
+}

@@ -1,0 +1,15 @@
+-- `ethernet::length_fault` meets its contract: the code reads like the definition. Assumes nothing.
+use mathlib.Core.Path.{_∙_}
+use borrow.Author.Needs.{needs}
+use Rattle.ethernet.specs.Event.{lengthFault}
+use Rattle.ethernet.proofs.event.length_fault.Statement.{statement}
+use Rattle.ethernet.proofs.event.length_fault.Tie as tie
+
+returns : tie.Need-returns
+unfolding lengthFault
+returns c = c .first2 .ensures ∙ rw (c .before .first .ensures, c .before .before .get162 .ensures, c .before .before .before .get16 .ensures)
+
+pub length-fault-spec : {M : Type 1} → statement M
+length-fault-spec =
+    tie.close
+    (tie.spec (λ c κs. search needs) (λ c. search needs) (λ c κs. search needs) (λ c. search needs) (λ c. search needs) (λ c κs. search needs) (λ c κs. search needs) returns)

@@ -1,0 +1,59 @@
+-- 01, types 120 and 121: Ethernet frame and forwarded frame, 64 + n bytes. Offsets from the header's end. The two differ in
+-- the type number alone, the `kind` of their layout.
+use Prim.Native.Nat.{ℕ, _≤_, _<_, _^_}
+use mathlib.Core.Path.{_≡_}
+use mathlib.Core.Bool.{true}
+use mathlib.Core.List.{List}
+use lib.ListN.{length, drop}
+use Rattle.fields.specs.Numbers.{num, part, zeros, allZero}
+use Rattle.headers.specs.declared.header.Header.{Header}
+use Rattle.headers.specs.Header.{Fit}
+use Rattle.headers.specs.Tests.{first, unitOk}
+use Rattle.headers.specs.Layout.{Layout}
+use Rattle.ethernet.specs.declared.frame.Frame.{Frame}
+use Rattle.ethernet.specs.Event.{structureLength, longestFrame, event, lengthFault, Framed}
+
+-- the four bytes at 28 are reserved
+unfoldable pub frame : Frame → List ℕ → List ℕ
+frame r bytes = event r (zeros 4) bytes
+
+unfoldable pub frameOf : Header → List ℕ → Frame
+frameOf h b = record {
+  header = h;
+  flags = num 2 b 2;
+  channel = num 2 b 4;
+  hardware = num 2 b 6;
+  duration = num 8 b 8;
+  checksum = num 4 b 16;
+  direction = num 2 b 20;
+  handle = num 4 b 24;
+}
+
+-- 7, 8 and, of the two lengths, 9
+unfoldable pub frameFault : Header → List ℕ → ℕ
+frameFault h b =
+    first 7 (unitOk (h .unit))
+    (first 8 (allZero (part 4 b 28))
+    (lengthFault b))
+
+pub record ValidFrame (r : Frame) (bytes : List ℕ) : Type 0 where
+  pub header : Fit (r .header)
+  pub unit : unitOk (r .header .unit) ≡ true
+  pub flags : r .flags < 256 ^ 2
+  pub channel : r .channel < 256 ^ 2
+  pub hardware : r .hardware < 256 ^ 2
+  pub duration : r .duration < 256 ^ 8
+  pub checksum : r .checksum < 256 ^ 4
+  pub direction : r .direction < 256 ^ 2
+  pub handle : r .handle < 256 ^ 4
+  pub short : length bytes ≤ longestFrame
+
+abbrev pub frameLayout : ℕ → Layout (Framed Frame)
+frameLayout k = record {
+  kind = k;
+  header = λ f. f .value .header;
+  body = λ f. frame (f .value) (f .bytes);
+  of = λ h b. record { value = frameOf h b; bytes = drop structureLength b };
+  fault = frameFault;
+  Valid = λ f. ValidFrame (f .value) (f .bytes);
+}

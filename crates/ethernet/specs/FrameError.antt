@@ -1,0 +1,39 @@
+-- 01, types 122 and 123: Ethernet error and forwarded error, 64 + n bytes. Offsets from the header's end. The two differ in
+-- the type number alone, the `kind` of their layout.
+use Prim.Native.Nat.{ℕ, _<_, _^_}
+use mathlib.Core.List.{List}
+use lib.ListN.{drop}
+use Rattle.fields.specs.Numbers.{num, le}
+use Rattle.headers.specs.declared.header.Header.{Header}
+use Rattle.headers.specs.Tests.{first, unitOk}
+use Rattle.headers.specs.Layout.{Layout}
+use Rattle.ethernet.specs.declared.frame_error.FrameError.{FrameError}
+use Rattle.ethernet.specs.Event.{structureLength, event, lengthFault, Framed}
+use Rattle.ethernet.specs.Frame.{frameOf, ValidFrame}
+
+-- the error code stands at 28
+unfoldable pub error : FrameError → List ℕ → List ℕ
+error e bytes = event (e .frame) (le 4 (e .code)) bytes
+
+unfoldable pub errorOf : Header → List ℕ → FrameError
+errorOf h b = record { frame = frameOf h b; code = num 4 b 28 }
+
+-- 7 and, of the two lengths, 9
+unfoldable pub errorFault : Header → List ℕ → ℕ
+errorFault h b =
+    first 7 (unitOk (h .unit))
+    (lengthFault b)
+
+pub record ValidError (e : FrameError) (bytes : List ℕ) : Type 0 where
+  pub frame : ValidFrame (e .frame) bytes
+  pub code : e .code < 256 ^ 4
+
+abbrev pub errorLayout : ℕ → Layout (Framed FrameError)
+errorLayout k = record {
+  kind = k;
+  header = λ e. e .value .frame .header;
+  body = λ e. error (e .value) (e .bytes);
+  of = λ h b. record { value = errorOf h b; bytes = drop structureLength b };
+  fault = errorFault;
+  Valid = λ e. ValidError (e .value) (e .bytes);
+}

@@ -1,0 +1,4 @@
+pub mod Status
+pub mod Event
+pub mod Frame
+pub mod FrameError

@@ -1,0 +1,70 @@
+-- 01, type 103: Ethernet status, 48 bytes. Offsets from the header's end; the eight bytes are in document 003's order.
+use Prim.Native.Nat.{ℕ, _<_, _^_}
+use mathlib.Core.Path.{_≡_}
+use mathlib.Core.Bool.{true}
+use mathlib.Core.List.{List, _++_}
+use Rattle.fields.specs.Numbers.{num, le}
+use Rattle.headers.specs.declared.header.Header.{Header}
+use Rattle.headers.specs.Header.{Fit}
+use Rattle.headers.specs.Tests.{first, unitOk}
+use Rattle.headers.specs.Layout.{Layout}
+use Rattle.ethernet.specs.declared.status.Status.{Status}
+
+unfoldable pub status : Status → List ℕ
+status r =
+    le 2 (r .channel)  --  0
+    ++ le 2 (r .flags)  --  2
+    ++ le 1 (r .link)  --  4
+    ++ le 1 (r .phy)  --  5
+    ++ le 1 (r .duplex)  --  6
+    ++ le 1 (r .mdi)  --  7
+    ++ le 1 (r .connector)  --  8
+    ++ le 1 (r .clock)  --  9
+    ++ le 1 (r .pairs)  -- 10
+    ++ le 1 (r .hardware)  -- 11
+    ++ le 4 (r .bitrate)  -- 12
+
+unfoldable pub statusOf : Header → List ℕ → Status
+statusOf h b = record {
+  header = h;
+  channel = num 2 b 0;
+  flags = num 2 b 2;
+  link = num 1 b 4;
+  phy = num 1 b 5;
+  duplex = num 1 b 6;
+  mdi = num 1 b 7;
+  connector = num 1 b 8;
+  clock = num 1 b 9;
+  pairs = num 1 b 10;
+  hardware = num 1 b 11;
+  bitrate = num 4 b 12;
+}
+
+-- 7
+unfoldable pub statusFault : Header → List ℕ → ℕ
+statusFault h b = first 7 (unitOk (h .unit)) 0
+
+pub record ValidStatus (r : Status) : Type 0 where
+  pub header : Fit (r .header)
+  pub unit : unitOk (r .header .unit) ≡ true
+  pub channel : r .channel < 256 ^ 2
+  pub flags : r .flags < 256 ^ 2
+  pub link : r .link < 256 ^ 1
+  pub phy : r .phy < 256 ^ 1
+  pub duplex : r .duplex < 256 ^ 1
+  pub mdi : r .mdi < 256 ^ 1
+  pub connector : r .connector < 256 ^ 1
+  pub clock : r .clock < 256 ^ 1
+  pub pairs : r .pairs < 256 ^ 1
+  pub hardware : r .hardware < 256 ^ 1
+  pub bitrate : r .bitrate < 256 ^ 4
+
+abbrev pub statusLayout : Layout Status
+statusLayout = record {
+  kind = 103;
+  header = λ r. r .header;
+  body = status;
+  of = statusOf;
+  fault = statusFault;
+  Valid = ValidStatus;
+}

@@ -1,0 +1,46 @@
+-- `ethernet_records::write_status` meets its contract: refused, or header, body and padding; what is not refused is valid. Assumes nothing.
+use mathlib.Core.Path.{_≡_, refl, sym, ap}
+use Prim.Native.Nat.{ℕ, _+_}
+use native.Mathlib.Omega.{arith}
+use borrow.Author.Needs.{needs}
+use lib.ListN.{length}
+use Rattle.fields.specs.Numbers.{le}
+use Rattle.fields.proofs.Writing.{then}
+use Rattle.headers.specs.Header.{headerLength, head, header}
+use Rattle.ethernet.specs.Status as ethernet
+use Rattle.ethernet.proofs.StatusLaws.{status-length}
+use Rattle.objects.specs.Kinds.{status}
+use Rattle.objects.specs.Items.{known}
+use Rattle.outcomes.proofs.Writing.{refused, refusal-is, Taken, taken, closed}
+use Rattle.ethernet_records.proofs.status.write_status.Statement.{statement}
+use Rattle.ethernet_records.proofs.status.write_status.Tie as tie
+
+returns : tie.Need-returns
+returns c =
+    let r = c .before .before .before .before .args .r in
+    refused (known status r) (refusal-is status r (ap (λ (n : ℕ). headerLength + n) (sym (status-length r))) _ (c .before .refuse .ensures)) (c .if1 .taken)
+
+put-header-requires : tie.Need-put-header-requires
+put-header-requires c κs = omega (arith, taken (c .before .before .refuse .ensures) (c .before .if1 .left) .room)
+
+put-status-requires : tie.Need-put-status-requires
+put-status-requires c κs = omega (arith, taken (c .before .before .before .before .before .before .refuse .ensures) (c .before .before .before .before .before .if1 .left) .room)
+
+close-requires : tie.Need-close-requires
+close-requires c κs = omega (arith, taken (c .before .before .before .before .before .before .before .before .before .before .refuse .ensures) (c .before .before .before .before .before .before .before .before .before .if1 .left) .room)
+
+returns-2 : tie.Need-returns-2
+unfolding header head le
+returns-2 c =
+    let s = c .before .before .before .before .before .before .before .before .before .before .before .before .before .before .before .before in
+    let r = s .args .r in
+    let f = c .before .before .before .before .before .before .before .before .before .before .before .before .before .refuse .ensures in
+    let m = c .before .before .before .before .before .before .before .before .before .before .before .before .if1 .left in
+    let g = s .good .0 .1 .1 in
+    let v : ethernet.ValidStatus r = record { header = search (needs, g .0); unit = taken f m .unit; channel = g .1 .0 .1; flags = g .1 .1 .0 .1; link = g .1 .1 .1 .0 .1; phy = g .1 .1 .1 .1 .0 .1; duplex = g .1 .1 .1 .1 .1 .0 .1; mdi = g .1 .1 .1 .1 .1 .1 .0 .1; connector = g .1 .1 .1 .1 .1 .1 .1 .0 .1; clock = g .1 .1 .1 .1 .1 .1 .1 .1 .0 .1; pairs = g .1 .1 .1 .1 .1 .1 .1 .1 .1 .0 .1; hardware = g .1 .1 .1 .1 .1 .1 .1 .1 .1 .1 .0 .1; bitrate = g .1 .1 .1 .1 .1 .1 .1 .1 .1 .1 .1 .0 .1 } in
+    closed status r (ap (λ (n : ℕ). headerLength + n) (sym (status-length r))) f m v (then (c .before .before .before .before .before .before .before .before .before .before .put-header .ensures) (c .before .before .before .before .before .before .put-status .ensures) refl) (c .before .before .close .ensures)
+
+pub write-status-spec : {M : Type 1} → statement M
+write-status-spec =
+    tie.close
+    (tie.spec (λ c. search needs) (λ c κs. search needs) returns (λ c. search needs) put-header-requires put-status-requires (λ c. search needs) close-requires (λ c. search needs) returns-2)

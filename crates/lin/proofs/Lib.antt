@@ -1,0 +1,5 @@
+pub mod BusLaws
+pub mod WakeUpLaws
+pub mod RateLaws
+pub mod TailLaws
+pub mod MessageLaws

@@ -1,0 +1,93 @@
+-- The laws of the wake-up: what is written is read, and what no fault refuses is written back. Assumes nothing.
+use mathlib.Core.Path.{_≡_, refl, sym, ap, _∙_}
+use mathlib.Core.Bool.{true}
+use mathlib.Core.List.{List}
+use Prim.Native.Nat.{ℕ, _+_, _≤_, _<_, _^_}
+use native.Mathlib.Nat.{le-of-eq}
+use native.Mathlib.Omega.{arith}
+use lib.ListN.{length}
+use lib.Seq.{take-all}
+use lib.Dec.{lit≤}
+use Rattle.fields.specs.Numbers.{Bytes, num, le, part, allZero}
+use Rattle.fields.proofs.Numbers.{val-le}
+use Rattle.fields.proofs.Reading.{more, got, fits, blank}
+use Rattle.headers.specs.declared.header.Header.{Header}
+use Rattle.headers.specs.Header.{headerLength, Fit}
+use Rattle.headers.specs.Types.{typeList, sizesIn}
+use Rattle.headers.specs.Tests.{first, unitOk}
+use Rattle.headers.specs.Layout.{Sized, Lawful}
+use Rattle.headers.proofs.TypeList.{types-exact, listed-exact}
+use Rattle.headers.proofs.Heads.{clear, passes}
+use Rattle.lin.specs.declared.wake_up.WakeUp.{WakeUp}
+use Rattle.lin.specs.Bus.{bus}
+use Rattle.lin.specs.WakeUp.{wakeUp, wakeUpOf, wakeUpFault, ValidWakeUp, wakeUpLayout}
+use Rattle.lin.proofs.BusLaws.{is-bus}
+
+pub wake-up-length : (r : WakeUp) → length (wakeUp r) ≡ 20
+unfolding wakeUp bus le
+wake-up-length r = refl
+
+-- what is written is read, and no fault refuses it
+module _ (r : WakeUp) (v : ValidWakeUp r) where
+  pub wake-up-back : wakeUpOf (r .header) (wakeUp r) ≡ r
+  unfolding wakeUpOf num wakeUp bus le
+  wake-up-back = λ i. record {
+    header = r .header;
+    start = val-le 8 (r .start) (v .start) i;
+    baud = val-le 4 (r .baud) (v .baud) i;
+    channel = val-le 2 (r .channel) (v .channel) i;
+    info = val-le 1 (r .info) (v .info) i;
+    signal = val-le 1 (r .signal) (v .signal) i;
+    external = val-le 1 (r .external) (v .external) i;
+  }
+
+  pub wake-up-no-fault : wakeUpFault (r .header) (wakeUp r) ≡ 0
+  unfolding wakeUpFault first wakeUp bus le allZero
+  wake-up-no-fault = passes 7 0 (v .unit)
+
+-- what no fault refuses is what is written, and valid
+module _ (h : Header) (b : List ℕ) (f : Fit h) (bs : Bytes b) (s : Sized 62 b) (z : wakeUpFault h b ≡ 0) where
+  long : length b ≡ 20
+  unfolding typeList sizesIn
+  long = let e : headerLength + length b ≡ 52 = types-exact 62 _ .0 s in omega arith
+
+  pub wake-up-forth : wakeUp (wakeUpOf h b) ≡ b
+  unfolding wakeUp wakeUpOf wakeUpFault
+  wake-up-forth =
+      let g = got b bs 20 (le-of-eq (sym long)) in
+      let c8 = clear _ _ _ (clear _ _ _ z .1) in
+      let x = is-bus b bs (rw long (lit≤ tt)) (c8 .0) in
+      let y = more (more (more x (g 1 16 (lit≤ tt)) refl) (g 1 17 (lit≤ tt)) refl) (g 1 18 (lit≤ tt)) refl in
+      more y (blank b 1 19 (le-of-eq (sym long)) (clear _ _ _ (c8 .1) .0)) refl .is ∙ take-all 20 b (le-of-eq long)
+
+  pub wake-up-valid : ValidWakeUp (wakeUpOf h b)
+  unfolding wakeUpOf wakeUpFault
+  wake-up-valid =
+      let g = fits b bs 20 (le-of-eq (sym long)) in
+      record {
+        header = f;
+        unit = clear _ _ _ z .0;
+        start = g 8 0 (lit≤ tt);
+        baud = g 4 8 (lit≤ tt);
+        channel = g 2 12 (lit≤ tt);
+        info = g 1 16 (lit≤ tt);
+        signal = g 1 17 (lit≤ tt);
+        external = g 1 18 (lit≤ tt);
+      }
+
+wake-up-sized : (r : WakeUp) → Sized 62 (wakeUp r)
+unfolding typeList sizesIn
+wake-up-sized r = types-exact 62 _ .1 (ap (λ (n : ℕ). headerLength + n) (wake-up-length r))
+
+pub wake-up-laws : Lawful wakeUpLayout
+unfolding wakeUpOf
+wake-up-laws = record {
+  known = listed-exact 62;
+  fit = λ r v. v .header;
+  same-header = λ h b. refl;
+  sized = λ r v. wake-up-sized r;
+  back = wake-up-back;
+  forth = wake-up-forth;
+  no-fault = wake-up-no-fault;
+  valid = wake-up-valid;
+}

@@ -1,0 +1,24 @@
+-- `lin::put_status` meets its contract: one field behind the other. Assumes nothing.
+use mathlib.Core.Path.{refl}
+use borrow.Author.Needs.{needs}
+use Rattle.fields.specs.Numbers.{le}
+use Rattle.fields.proofs.Writing.{then}
+use Rattle.lin.specs.Message.{status}
+use Rattle.lin.proofs.message.put_status.Statement.{statement}
+use Rattle.lin.proofs.message.put_status.Tie as tie
+
+returns : tie.Need-returns
+unfolding status le
+returns c =
+    let p6 = c .before .before in
+    let p5 = p6 .before .before .before .before in
+    let p4 = p5 .before .before .before .before in
+    let p3 = p4 .before .before .before .before in
+    let p2 = p3 .before .before .before .before in
+    let p1 = p2 .before .before .before .before in
+    then (then (then (then (then (p1 .put16 .ensures) (p2 .put8 .ensures) refl) (p3 .put82 .ensures) refl) (p4 .put83 .ensures) refl) (p5 .put84 .ensures) refl) (p6 .put85 .ensures) refl
+
+pub put-status-spec : {M : Type 1} → statement M
+put-status-spec =
+    tie.close
+    (tie.spec (λ c κs. search needs) (λ c. search needs) (λ c κs. search needs) (λ c. search needs) (λ c κs. search needs) (λ c. search needs) (λ c κs. search needs) (λ c. search needs) (λ c κs. search needs) (λ c. search needs) (λ c κs. search needs) (λ c. search needs) returns)

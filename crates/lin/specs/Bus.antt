@@ -1,0 +1,11 @@
+-- 01, types 57 and 62: what both LIN records begin with, 16 bytes. Offsets from the header's end.
+use Prim.Native.Nat.{ℕ}
+use mathlib.Core.List.{List, _++_}
+use Rattle.fields.specs.Numbers.{le, zeros}
+
+unfoldable pub bus : ℕ → ℕ → ℕ → List ℕ
+bus start baud channel =
+    le 8 start  --  0
+    ++ le 4 baud  --  8
+    ++ le 2 channel  -- 12
+    ++ zeros 2  -- 14 reserved

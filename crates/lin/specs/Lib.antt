@@ -1,0 +1,4 @@
+pub mod Bus
+pub mod WakeUp
+pub mod Tail
+pub mod Message

@@ -1,0 +1,56 @@
+-- 01: "A LIN message ends in one of three ways", and the size decides which. Offsets from the tail's start, which is 164 in
+-- the object.
+use Prim.Native.Nat.{ℕ, _<_, _^_}
+use mathlib.Core.Path.{_≡_}
+use mathlib.Core.Bool.{Bool, true, false, not, cond}
+use mathlib.Core.Logic.{_↔_}
+use mathlib.Core.List.{List, [], _++_}
+use lib.ListN.{length}
+use lib.Dec.{eqb}
+use lib.Ieee.{Float, nan, inf, fin, binary64, ofBits, toBits, fits}
+use Rattle.fields.specs.Numbers.{num, le}
+use Rattle.lin.specs.declared.tail.Tail.{Tail}
+use Rattle.lin.specs.declared.tail.Tail.the-variants.{Nothing, Response, Rates}
+
+unfoldable pub rates : ℕ → Float → ℕ → ℕ → List ℕ
+rates response exact header-stop response-stop =
+    le 4 response  --  0
+    ++ le 8 (toBits binary64 exact)  --  4
+    ++ le 4 header-stop  -- 12
+    ++ le 4 response-stop  -- 16
+
+unfoldable pub tail : Tail → List ℕ
+tail Nothing = []
+tail (Response response) = le 4 response
+tail (Rates response exact header-stop response-stop) = rates response exact header-stop response-stop
+
+-- the tail that bytes are
+unfoldable pub tailOf : List ℕ → Tail
+tailOf t =
+    cond (eqb (length t) 4) (Response (num 4 t 0))
+    (cond (eqb (length t) 20) (Rates (num 4 t 0) (ofBits binary64 (num 8 t 4)) (num 4 t 12) (num 4 t 16))
+    Nothing)
+
+-- 9: "The f64 must be finite with its sign bit clear"
+unfoldable pub rateOk : Float → Bool
+rateOk nan = false
+rateOk (inf sign) = false
+rateOk (fin sign m e) = not sign
+
+abbrev pub tailOk : Tail → Bool
+tailOk Nothing = true
+tailOk (Response response) = true
+tailOk (Rates response exact header-stop response-stop) = rateOk exact
+
+-- each number fits its width, and the float its format
+abbrev pub FitTail : Tail → Type 0
+FitTail Nothing = Unit
+FitTail (Response response) = response < 256 ^ 4
+FitTail (Rates response exact header-stop response-stop) =
+    (response < 256 ^ 4) × (fits binary64 exact ≡ true) × (header-stop < 256 ^ 4) × (response-stop < 256 ^ 4)
+
+-- "The size decides which": an object's size, and how it ends
+pub record Decides (size : ℕ) (t : Tail) : Type 0 where
+  pub nothing : (size ≡ 164) ↔ (t ≡ Nothing)
+  pub response : (size ≡ 168) ↔ ((response : ℕ) × (t ≡ Response response))
+  pub rates : (size ≡ 184) ↔ ((response : ℕ) × (exact : Float) × (header-stop : ℕ) × (response-stop : ℕ) × (t ≡ Rates response exact header-stop response-stop))

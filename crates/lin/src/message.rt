@@ -1,0 +1,152 @@
+// The LIN message, type 57.
+use crate::bus::put_bus;
+use crate::tail::Tail;
+use crate::tail::get_tail;
+use crate::tail::put_tail;
+use crate::tail::tail_ok;
+ghost use mathlib.Core.Path.{_≡_};
+ghost use mathlib.Core.Bool.{true};
+ghost use Prim.Native.Nat.{_+_, _≤_};
+ghost use lib.ListN.{length};
+ghost use Rattle.fields.specs.Written.{Wrote};
+ghost use Rattle.lin.specs.Tail.{tail, tailOk};
+ghost use Rattle.lin.specs.Message.{synch, descriptor, status, machines, message, messageOf, messageFault};
+
+pub struct Message {
+    pub header: headers::Header,
+    pub start: u64,
+    pub baud: u32,
+    pub channel: u16,
+    pub breaking: u64,
+    pub delimiter: u64,
+    pub supplier: u16,
+    pub message: u16,
+    pub nad: u8,
+    pub id: u8,
+    pub dlc: u8,
+    pub model: u8,
+    pub stamps: [u64; 9],
+    pub bytes: [u8; 8],
+    pub checksum: u16,
+    pub direction: u8,
+    pub simulated: u8,
+    pub triggered: u8,
+    pub index: u8,
+    pub associated: u8,
+    pub machine: u8,
+    pub state: u8,
+    pub tail: Tail,
+}
+
+// What refuses a message: 7, 8, 9, or 0 for nothing.
+pub fn message_fault(h: headers::Header, b: &[u8]) -> u32
+    requires { ⌜ 132 ≤ length (now b) ⌝ }
+    ensures { λ r. ⌜ r ≡ messageFault h (now (b .entry)) ⌝ }
+{
+    let early = fields::all_zero(b, 14, 2);
+    let late = fields::all_zero(b, 129, 3);
+    let rates = tail_ok(get_tail(b));
+    headers::first(
+        7,
+        headers::unit_ok(h.unit),
+        headers::first(
+            8,
+            early,
+            headers::first(8, late, headers::first(9, rates, 0)),
+        ),
+    )
+}
+
+// The message of a header and a body.
+pub fn get_message(h: headers::Header, b: &[u8]) -> Message
+    requires { ⌜ 132 ≤ length (now b) ⌝ }
+    ensures { λ r. ⌜ r ≡ messageOf h (now (b .entry)) ⌝ }
+{
+    let stamps = fields::get64x9(b, 40);
+    let bytes = fields::get8x8(b, 112);
+    let tail = get_tail(b);
+    Message {
+        header: h,
+        start: fields::get64(b, 0),
+        baud: fields::get32(b, 8),
+        channel: fields::get16(b, 12),
+        breaking: fields::get64(b, 16),
+        delimiter: fields::get64(b, 24),
+        supplier: fields::get16(b, 32),
+        message: fields::get16(b, 34),
+        nad: fields::get8(b, 36),
+        id: fields::get8(b, 37),
+        dlc: fields::get8(b, 38),
+        model: fields::get8(b, 39),
+        stamps,
+        bytes,
+        checksum: fields::get16(b, 120),
+        direction: fields::get8(b, 122),
+        simulated: fields::get8(b, 123),
+        triggered: fields::get8(b, 124),
+        index: fields::get8(b, 125),
+        associated: fields::get8(b, 126),
+        machine: fields::get8(b, 127),
+        state: fields::get8(b, 128),
+        tail,
+    }
+}
+
+fn put_synch(out: &mut [u8], at: usize, r: Message)
+    requires { ⌜ at + 32 ≤ length (now out) ⌝ }
+    ensures { λ _. ⌜ Wrote at (synch r) (now (out .entry)) (now (out .exit)) ⌝ }
+{
+    put_bus(out, at, r.start, r.baud, r.channel);
+    fields::put64(out, at + 16, r.breaking);
+    fields::put64(out, at + 24, r.delimiter);
+}
+
+fn put_descriptor(out: &mut [u8], at: usize, r: Message)
+    requires { ⌜ at + 8 ≤ length (now out) ⌝ }
+    ensures { λ _. ⌜ Wrote at (descriptor r) (now (out .entry)) (now (out .exit)) ⌝ }
+{
+    fields::put16(out, at, r.supplier);
+    fields::put16(out, at + 2, r.message);
+    fields::put8(out, at + 4, r.nad);
+    fields::put8(out, at + 5, r.id);
+    fields::put8(out, at + 6, r.dlc);
+    fields::put8(out, at + 7, r.model);
+}
+
+fn put_status(out: &mut [u8], at: usize, r: Message)
+    requires { ⌜ at + 7 ≤ length (now out) ⌝ }
+    ensures { λ _. ⌜ Wrote at (status r) (now (out .entry)) (now (out .exit)) ⌝ }
+{
+    fields::put16(out, at, r.checksum);
+    fields::put8(out, at + 2, r.direction);
+    fields::put8(out, at + 3, r.simulated);
+    fields::put8(out, at + 4, r.triggered);
+    fields::put8(out, at + 5, r.index);
+    fields::put8(out, at + 6, r.associated);
+}
+
+fn put_machines(out: &mut [u8], at: usize, r: Message)
+    requires { ⌜ at + 5 ≤ length (now out) ⌝ }
+    ensures { λ _. ⌜ Wrote at (machines r) (now (out .entry)) (now (out .exit)) ⌝ }
+{
+    fields::put8(out, at, r.machine);
+    fields::put8(out, at + 1, r.state);
+    fields::put_zeros(out, at + 2, 3);
+}
+
+// The body of a message whose tail may be written, written at a place.
+pub fn put_message(out: &mut [u8], at: usize, r: Message)
+    requires { ⌜ (at + 132 + length (tail (r .tail)) ≤ length (now out)) × (tailOk (r .tail) ≡ true) ⌝ }
+    ensures { λ _. ⌜ Wrote at (message r) (now (out .entry)) (now (out .exit)) ⌝ }
+{
+    let stamps = r.stamps;
+    let bytes = r.bytes;
+    let tail = r.tail;
+    put_synch(out, at, r);
+    put_descriptor(out, at + 32, r);
+    fields::put64x9(out, at + 40, stamps);
+    fields::put8x8(out, at + 112, bytes);
+    put_status(out, at + 120, r);
+    put_machines(out, at + 127, r);
+    put_tail(out, at + 132, tail);
+}

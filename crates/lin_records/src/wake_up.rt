@@ -1,0 +1,64 @@
+// LIN wake-up 2, type 62.
+use headers::Header;
+use objects::Cursor;
+use outcomes::Told;
+use outcomes::Written;
+ghost use mathlib.Core.Path.{_≡_};
+ghost use Prim.Native.Nat.{_≤_};
+ghost use lib.ListN.{length};
+ghost use Rattle.objects.specs.Kinds.{wakeUp};
+ghost use Rattle.objects.specs.Items.{known};
+ghost use Rattle.outcomes.specs.Reads.{recordOf, recordIn, Reads};
+ghost use Rattle.outcomes.specs.Writes.{Outcome};
+
+const KIND: u32 = 62;
+
+const SIZE: usize = 52;
+
+// What a read is told, the next cursor, and the record: zeros but where it is told of one.
+pub struct WakeUpRead {
+    pub told: Told,
+    pub next: Cursor,
+    pub value: lin::WakeUp,
+}
+
+fn wake_up_of(o: &[u8]) -> lin::WakeUp
+    requires { ⌜ 52 ≤ length (now o) ⌝ }
+    ensures { λ r. ⌜ r ≡ recordOf wakeUp (now (o .entry)) ⌝ }
+{
+    lin::get_wake_up(headers::get_header(o), headers::body(o))
+}
+
+fn wake_up_in(o: &[u8]) -> lin::WakeUp
+    ensures { λ r. ⌜ r ≡ recordIn wakeUp (now (o .entry)) ⌝ }
+{
+    if o.len() < SIZE {
+        return wake_up_of(&[0u8; SIZE]);
+    }
+    wake_up_of(o)
+}
+
+// The wake-up at the cursor.
+pub fn read_wake_up(log: &[u8], c: Cursor) -> WakeUpRead
+    ensures { λ r. ⌜ Reads wakeUp (now (log .entry)) (c .at) (r .told) (r .next) (r .value) ⌝ }
+{
+    let l = outcomes::look(log, c, KIND);
+    let value = wake_up_in(outcomes::cut(log, l));
+    let told = l.told;
+    let next = l.next;
+    WakeUpRead { told, next, value }
+}
+
+// Writes a wake-up with its padding to the front of `out`.
+pub fn write_wake_up(r: lin::WakeUp, out: &mut [u8]) -> Written
+    ensures { λ w. ⌜ Outcome (known wakeUp r) w (now (out .entry)) (now (out .exit)) ⌝ }
+{
+    let h = r.header;
+    let number = outcomes::refuse(KIND, h.unit, true, SIZE as u32, out.len());
+    if number != 0 {
+        return Written::Refused { number, place: 0 };
+    }
+    headers::put_header(out, KIND, SIZE as u32, h);
+    lin::put_wake_up(out, Header::LENGTH, r);
+    outcomes::close(out, SIZE as u32)
+}

@@ -1,0 +1,5 @@
+pub mod Kinds
+pub mod Items
+pub mod Next
+pub mod Views
+pub mod Walk
