@@ -2,3 +2,4 @@ pub mod Bodies
 pub mod MessageLaws
 pub mod OverloadLaws
 pub mod StatisticLaws
+pub mod KnownLaws

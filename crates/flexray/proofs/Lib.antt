@@ -1,1 +1,2 @@
 pub mod ReceiveLaws
+pub mod KnownLaws

@@ -1,38 +1,31 @@
--- The laws of the LIN message: what is written is read, what no fault refuses is written back, and the size decides how it
--- ends. Assumes nothing.
+-- The laws of the LIN message: what is written is read, and what no fault refuses is written back. Assumes nothing.
 use mathlib.Core.Path.{_≡_, refl, sym, ap, ap₂, _∙_}
 use mathlib.Core.Bool.{true}
 use mathlib.Core.List.{List, _++_}
-use mathlib.Core.Logic.{_⊎_, ⊎-elim, _↔_}
-use Prim.Native.Nat.{ℕ, _+_, _-_, _≤_, _<_, _^_}
+use Prim.Native.Nat.{ℕ, _+_, _≤_, _<_, _^_}
 use native.Mathlib.Omega.{arith}
-use lib.ListN.{length, take, drop, length-drop, take-append-drop}
+use lib.ListN.{length, take, drop, take-append-drop}
 use lib.Dec.{lit≤}
-use lib.Ieee.{Float}
 use Rattle.fields.specs.Numbers.{Bytes, num, le, part, allZero}
-use Rattle.fields.specs.Arrays.{array, nums}
+use Rattle.fields.specs.Arrays.{array}
 use Rattle.fields.proofs.Parts.{drop-bytes}
 use Rattle.fields.proofs.Numbers.{val-le}
 use Rattle.fields.proofs.Reading.{Is, more, got, fits, blank}
 use Rattle.fields.proofs.Elements.{length-nums, array-nums, nums-fit, nums-array}
 use Rattle.headers.specs.declared.header.Header.{Header}
-use Rattle.headers.specs.Header.{headerLength, Fit}
-use Rattle.headers.specs.Types.{oneOf, Has, typeList, sizesIn}
+use Rattle.headers.specs.Header.{Fit}
 use Rattle.headers.specs.Tests.{first, unitOk}
 use Rattle.headers.specs.Layout.{Sized, Lawful}
-use Rattle.headers.proofs.TypeList.{types-exact, listed-exact}
+use Rattle.headers.proofs.TypeList.{listed-exact}
 use Rattle.headers.proofs.Heads.{clear, passes}
 use Rattle.lin.specs.declared.message.Message.{Message}
-use Rattle.lin.specs.declared.tail.Tail.the-variants.{Rates}
 use Rattle.lin.specs.Bus.{bus}
-use Rattle.lin.specs.Tail.{tail, tailOf, tailOk, Decides}
+use Rattle.lin.specs.Tail.{tailOf, tailOk}
 use Rattle.lin.specs.Message.{synch, descriptor, status, machines, message, messageOf, messageFault, ValidMessage, messageLayout}
 use Rattle.lin.proofs.BusLaws.{is-bus}
-use Rattle.lin.proofs.TailLaws.{sizeWith, Ends, tail-ends, tail-back, tail-forth, tail-fit, same-length, decides}
-
-pub message-length : (r : Message) → length (message r) ≡ 132 + length (tail (r .tail))
-unfolding message synch bus descriptor array status machines le
-message-length r = omega arith
+use Rattle.lin.proofs.TailLaws.{tail-back, tail-forth, tail-fit}
+use Rattle.lin.proofs.SizeLaws.{message-sized, long, ends}
+pub use Rattle.lin.proofs.SizeLaws.{message-length}
 
 -- what is written is read, and no fault refuses it
 module _ (r : Message) (v : ValidMessage r) where
@@ -67,23 +60,6 @@ module _ (r : Message) (v : ValidMessage r) where
   pub message-no-fault : messageFault (r .header) (message r) ≡ 0
   unfolding messageFault messageOf first allZero message synch bus descriptor array status machines le
   message-no-fault = passes 7 _ (v .unit) ∙ passes 9 0 (ap (λ (x : Message). tailOk (x .tail)) message-back ∙ v .exact)
-
--- the three sizes
-module _ (b : List ℕ) (s : Sized 57 b) where
-  size : Has (oneOf 164 168 184) (headerLength + length b)
-  unfolding typeList sizesIn
-  size = types-exact 57 _ .0 s
-
-  long : 132 ≤ length b
-  long =
-      ⊎-elim (λ (e : headerLength + length b ≡ 164). omega arith)
-      (λ u. ⊎-elim (λ (e : headerLength + length b ≡ 168). omega arith) (λ (e : headerLength + length b ≡ 184). omega arith) u) size
-
-  same-size : headerLength + length b ≡ sizeWith (drop 132 b)
-  same-size = let l = long in rw length-drop (omega arith)
-
-  ends : Ends (drop 132 b)
-  ends = rw same-size at size
 
 -- the tests that a body without a fault has passed
 record Passed (h : Header) (b : List ℕ) : Type 0 where
@@ -172,10 +148,6 @@ module _ (h : Header) (b : List ℕ) (f : Fit h) (bs : Bytes b) (s : Sized 57 b)
     exact = passed h b z .exact;
   }
 
-message-sized : (r : Message) → Sized 57 (message r)
-unfolding typeList sizesIn
-message-sized r = types-exact 57 _ .1 (rw message-length (tail-ends (r .tail)))
-
 pub message-laws : Lawful messageLayout
 unfolding messageOf
 message-laws = record {
@@ -188,19 +160,3 @@ message-laws = record {
   no-fault = message-no-fault;
   valid = message-valid;
 }
-
--- the size decides how a message ends: one that is written, and one that is read
-
-pub size-by-tail : (r : Message) → Decides (headerLength + length (message r)) (r .tail)
-size-by-tail r = decides _ (r .tail) (ap (λ (n : ℕ). headerLength + n) (message-length r))
-
-module _ (h : Header) (b : List ℕ) (s : Sized 57 b) where
-  pub tail-by-size : Decides (headerLength + length b) (messageOf h b .tail)
-  unfolding messageOf
-  tail-by-size = decides _ _ (same-size b s ∙ ap (λ (n : ℕ). headerLength + (132 + n)) (sym (same-length (drop 132 b) (ends b s))))
-
-  -- an object of 168 bytes has no exact rate
-  pub no-exact-rate : headerLength + length b ≡ 168 → (r : ℕ) (x : Float) (a c : ℕ) → messageOf h b .tail ≡ Rates r x a c → ⊥
-  no-exact-rate e r x a c q =
-      let k : headerLength + length b ≡ 184 = tail-by-size .rates .1 (r, x, a, c, q) in
-      omega arith

@@ -14,13 +14,13 @@ use Rattle.lin.specs.Tail.{rateOk}
 abbrev pub infinity : ℕ
 infinity = 0x7ff0_0000_0000_0000
 
--- a number's rule is its sign's
+-- what is written with an odd number is finite, and its sign decides
 rate-odd : (d : ℕ) (s : Bool) (q k l : ℕ) → rateOk (odd d s q k l) ≡ not s
 unfolding rateOk odd
 rate-odd d s zero k l = refl
 rate-odd d s (suc q) k l = refl
 
--- a pattern's: the exponent is not all ones, and the sign is clear
+-- of a pattern's fields: the exponent is not all ones, and the sign is clear
 
 rate-top : (a b s : Bool) (y : Float) → rateOk y ≡ not s → rateOk (cond a (cond b (inf s) nan) y) ≡ (not a && not s)
 unfolding rateOk
@@ -48,6 +48,12 @@ rate-bits n = pick (ltb n infinity) (leb (top binary64) n) refl refl ∙ sym (ra
         let k : infinity ≤ n = ltb-false n infinity p in
         let l : n < top binary64 = leb-false (top binary64) n q in
         rw (eq-eqb (exponent n) (ones binary64) (omega arith))
+
+-- zero, the least number and the greatest pass; minus zero, the infinities and a NaN do not
+pub rate-examples : (rateOk (ofBits binary64 0) ≡ true) × (rateOk (ofBits binary64 1) ≡ true) × (rateOk (ofBits binary64 0x7fef_ffff_ffff_ffff) ≡ true)
+    × (rateOk (ofBits binary64 0x8000_0000_0000_0000) ≡ false) × (rateOk (ofBits binary64 0x7ff0_0000_0000_0000) ≡ false)
+    × (rateOk (ofBits binary64 0xfff0_0000_0000_0000) ≡ false) × (rateOk (ofBits binary64 0x7ff8_0000_0000_0000) ≡ false)
+rate-examples = (sym (rate-bits _), sym (rate-bits _), sym (rate-bits _), sym (rate-bits _), sym (rate-bits _), sym (rate-bits _), sym (rate-bits _))
 
 -- the same of a rate in memory
 pub rate-same : (x : Float) → fits binary64 x ≡ true → ltb (toBits binary64 x) infinity ≡ rateOk x

@@ -2,8 +2,8 @@
 use mathlib.Core.Path.{_≡_, refl, sym, ap, _∙_}
 use mathlib.Core.Bool.{true}
 use mathlib.Core.List.{List, [], _∷_}
-use mathlib.Core.Logic.{_⊎_, inl, inr, ⊎-elim, _↔_}
-use Prim.Native.Nat.{ℕ, _+_, _*_, _≤_, _<_, _^_}
+use mathlib.Core.Logic.{inl, inr, ⊎-elim}
+use Prim.Native.Nat.{ℕ, _+_, _≤_}
 use native.Mathlib.Nat.{le-of-eq}
 use native.Mathlib.Omega.{arith}
 use package.types.Run.{OneOf}
@@ -11,9 +11,9 @@ use denote.Enum.Declared.{tagOf}
 use lib.Dec.{lit≤}
 use lib.ListN.{length}
 use lib.Seq.{take-all}
-use lib.Ieee.{Float, binary64, toBits, ofBits, top}
+use lib.Ieee.{Float, binary64, toBits, ofBits}
 use lib.Ieee.Bits.{toBits-lt, toBits-ofBits, ofBits-toBits, ofBits-fits, is-true}
-use Rattle.fields.specs.Numbers.{Bytes, val, le, num}
+use Rattle.fields.specs.Numbers.{Bytes, le, num}
 use Rattle.fields.proofs.Numbers.{val-le}
 use Rattle.fields.proofs.Reading.{Is, more, got, kept, fits}
 use Rattle.headers.specs.Header.{headerLength}
@@ -63,7 +63,8 @@ empty (x ∷ t) h = absurd (omega arith)
 -- bytes that are as long as a tail
 module _ (t : List ℕ) (bs : Bytes t) (ends : Ends t) where
   -- four numbers are the bytes they were read from where the bits of the second are kept
-  is-rates : 20 ≤ length t → rateOk (ofBits binary64 (num 8 t 4)) ≡ true → Is t 0 20 (rates (num 4 t 0) (ofBits binary64 (num 8 t 4)) (num 4 t 12) (num 4 t 16))
+  is-rates : 20 ≤ length t → rateOk (ofBits binary64 (num 8 t 4)) ≡ true
+      → Is t 0 20 (rates (num 4 t 0) (ofBits binary64 (num 8 t 4)) (num 4 t 12) (num 4 t 16))
   unfolding rates
   is-rates n z =
       let g = got t bs 20 n in
@@ -100,17 +101,17 @@ unfolding tail rates le
 same-length t ends = by-length t (λ x. length (tail x) ≡ length t) ends sym sym sym
 
 -- the length of a tail tells its way to end
-ways : (t : Tail) (n : ℕ) → n ≡ length (tail t) → (n ≡ 0 → t ≡ Nothing) × (n ≡ 4 → (r : ℕ) × (t ≡ Response r))
-    × (n ≡ 20 → (r : ℕ) × (x : Float) × (a : ℕ) × (b : ℕ) × (t ≡ Rates r x a b))
+ways : (t : Tail) → (length (tail t) ≡ 0 → t ≡ Nothing) × (length (tail t) ≡ 4 → (r : ℕ) × (t ≡ Response r))
+    × (length (tail t) ≡ 20 → (r : ℕ) × (x : Float) × (a : ℕ) × (b : ℕ) × (t ≡ Rates r x a b))
 unfolding tail rates le
-ways Nothing n l = (λ e. refl, λ e. absurd (omega arith), λ e. absurd (omega arith))
-ways (Response r) n l = (λ e. absurd (omega arith), λ e. (r, refl), λ e. absurd (omega arith))
-ways (Rates r x a b) n l = (λ e. absurd (omega arith), λ e. absurd (omega arith), λ e. (r, x, a, b, refl))
+ways Nothing = (λ e. refl, λ e. absurd (omega arith), λ e. absurd (omega arith))
+ways (Response r) = (λ e. absurd (omega arith), λ e. (r, refl), λ e. absurd (omega arith))
+ways (Rates r x a b) = (λ e. absurd (omega arith), λ e. absurd (omega arith), λ e. (r, x, a, b, refl))
 
 pub decides : (size : ℕ) (t : Tail) → size ≡ sizeWith (tail t) → Decides size t
 unfolding tail rates le
 decides size t l =
-    let w = ways t (length (tail t)) refl in
+    let w = ways t in
     record {
       nothing = (λ (e : size ≡ 164). w .0 (omega arith), back);
       response = (λ (e : size ≡ 168). w .1 (omega arith), λ p. back (p .1));

@@ -1,20 +1,19 @@
 -- The laws of the wake-up: what is written is read, and what no fault refuses is written back. Assumes nothing.
 use mathlib.Core.Path.{_≡_, refl, sym, ap, _∙_}
-use mathlib.Core.Bool.{true}
 use mathlib.Core.List.{List}
-use Prim.Native.Nat.{ℕ, _+_, _≤_, _<_, _^_}
+use Prim.Native.Nat.{ℕ, _+_}
 use native.Mathlib.Nat.{le-of-eq}
 use native.Mathlib.Omega.{arith}
 use lib.ListN.{length}
 use lib.Seq.{take-all}
 use lib.Dec.{lit≤}
-use Rattle.fields.specs.Numbers.{Bytes, num, le, part, allZero}
+use Rattle.fields.specs.Numbers.{Bytes, num, le, allZero}
 use Rattle.fields.proofs.Numbers.{val-le}
 use Rattle.fields.proofs.Reading.{more, got, fits, blank}
 use Rattle.headers.specs.declared.header.Header.{Header}
 use Rattle.headers.specs.Header.{headerLength, Fit}
 use Rattle.headers.specs.Types.{typeList, sizesIn}
-use Rattle.headers.specs.Tests.{first, unitOk}
+use Rattle.headers.specs.Tests.{first}
 use Rattle.headers.specs.Layout.{Sized, Lawful}
 use Rattle.headers.proofs.TypeList.{types-exact, listed-exact}
 use Rattle.headers.proofs.Heads.{clear, passes}

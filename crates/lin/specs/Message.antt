@@ -1,4 +1,4 @@
--- 01, type 57: LIN message 2, 164, 168 or 184 bytes. Offsets from the header's end.
+-- 01, type 57: LIN message 2, 164, 168 or 184 bytes (001, 3.3). Offsets from the header's end.
 use Prim.Native.Nat.{ℕ, _<_, _^_}
 use mathlib.Core.Path.{_≡_}
 use mathlib.Core.Bool.{true}
@@ -14,14 +14,14 @@ use Rattle.lin.specs.declared.message.Message.{Message}
 use Rattle.lin.specs.Bus.{bus}
 use Rattle.lin.specs.Tail.{tail, tailOf, tailOk, FitTail}
 
--- the first two parts of the body as document 001 has them
-
+-- where and when, and the break before the frame (001, 3.1.5)
 unfoldable pub synch : Message → List ℕ
 synch r =
     bus (r .start) (r .baud) (r .channel)  --  0
-    ++ le 8 (r .breaking)  -- 16
-    ++ le 8 (r .delimiter)  -- 24
+    ++ le 8 (r .breaking)  -- 16 break length
+    ++ le 8 (r .delimiter)  -- 24 delimiter length
 
+-- which frame it is (001, 3.1.6)
 unfoldable pub descriptor : Message → List ℕ
 descriptor r =
     le 2 (r .supplier)  -- 32
@@ -29,19 +29,19 @@ descriptor r =
     ++ le 1 (r .nad)  -- 36
     ++ le 1 (r .id)  -- 37
     ++ le 1 (r .dlc)  -- 38
-    ++ le 1 (r .model)  -- 39
+    ++ le 1 (r .model)  -- 39 checksum model
 
--- what stands between the data and the tail
-
+-- the checksum, and how the frame came about
 unfoldable pub status : Message → List ℕ
 status r =
     le 2 (r .checksum)  -- 120
     ++ le 1 (r .direction)  -- 122
     ++ le 1 (r .simulated)  -- 123
-    ++ le 1 (r .triggered)  -- 124
+    ++ le 1 (r .triggered)  -- 124 event-triggered
     ++ le 1 (r .index)  -- 125
-    ++ le 1 (r .associated)  -- 126
+    ++ le 1 (r .associated)  -- 126 associated id
 
+-- the slave's state machine
 unfoldable pub machines : Message → List ℕ
 machines r =
     le 1 (r .machine)  -- 127

@@ -53,4 +53,5 @@ FitTail (Rates response exact header-stop response-stop) =
 pub record Decides (size : ℕ) (t : Tail) : Type 0 where
   pub nothing : (size ≡ 164) ↔ (t ≡ Nothing)
   pub response : (size ≡ 168) ↔ ((response : ℕ) × (t ≡ Response response))
-  pub rates : (size ≡ 184) ↔ ((response : ℕ) × (exact : Float) × (header-stop : ℕ) × (response-stop : ℕ) × (t ≡ Rates response exact header-stop response-stop))
+  pub rates : (size ≡ 184)
+      ↔ ((response : ℕ) × (exact : Float) × (header-stop : ℕ) × (response-stop : ℕ) × (t ≡ Rates response exact header-stop response-stop))

@@ -1,4 +1,4 @@
--- 01, type 62: LIN wake-up 2, 52 bytes. Offsets from the header's end.
+-- 01, type 62: LIN wake-up 2, 52 bytes (001, 3.8). Offsets from the header's end.
 use Prim.Native.Nat.{ℕ, _<_, _^_}
 use mathlib.Core.Path.{_≡_}
 use mathlib.Core.Bool.{true}
@@ -14,7 +14,7 @@ use Rattle.lin.specs.Bus.{bus}
 unfoldable pub wakeUp : WakeUp → List ℕ
 wakeUp r =
     bus (r .start) (r .baud) (r .channel)  --  0
-    ++ le 1 (r .info)  -- 16
+    ++ le 1 (r .info)  -- 16 length info
     ++ le 1 (r .signal)  -- 17
     ++ le 1 (r .external)  -- 18
     ++ zeros 1  -- 19 reserved

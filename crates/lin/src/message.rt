@@ -134,7 +134,7 @@ fn put_machines(out: &mut [u8], at: usize, r: Message)
     fields::put_zeros(out, at + 2, 3);
 }
 
-// The body of a message whose tail may be written, written at a place.
+// The body of a message, written at a place; its tail is one that `tail_ok` lets through.
 pub fn put_message(out: &mut [u8], at: usize, r: Message)
     requires { ⌜ (at + 132 + length (tail (r .tail)) ≤ length (now out)) × (tailOk (r .tail) ≡ true) ⌝ }
     ensures { λ _. ⌜ Wrote at (message r) (now (out .entry)) (now (out .exit)) ⌝ }

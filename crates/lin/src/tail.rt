@@ -78,7 +78,7 @@ fn tail_of(t: &[u8]) -> Tail
     Tail::Nothing
 }
 
-// How a body ends.
+// The tail of a message's body.
 pub(crate) fn get_tail(b: &[u8]) -> Tail
     requires { ⌜ 132 ≤ length (now b) ⌝ }
     ensures { λ r. ⌜ r ≡ tailOf (drop 132 (now (b .entry))) ⌝ }

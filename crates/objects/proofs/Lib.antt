@@ -2,7 +2,12 @@ pub mod KindLaws
 pub mod FaultLaws
 pub mod ItemLaws
 pub mod Steps
+pub mod Rows
+pub mod Refusals
 pub mod Walks
+pub mod Entries
 pub mod Exact
+pub mod Naming
+pub mod Refuted
 pub mod Answers
 pub mod ViewLaws

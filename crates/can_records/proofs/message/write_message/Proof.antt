@@ -2,13 +2,12 @@
 use mathlib.Core.Path.{_≡_, refl, sym, ap}
 use Prim.Native.Nat.{ℕ, _+_}
 use native.Mathlib.Omega.{arith}
-use borrow.Author.Needs.{needs, length-unmapped, elem-fits-field}
-use mir.Syntax.{w8}
+use borrow.Author.Needs.{needs}
 use lib.ListN.{length}
 use Rattle.fields.specs.Numbers.{le}
 use Rattle.fields.proofs.Writing.{then}
 use Rattle.headers.specs.Header.{headerLength, head, header}
-use Rattle.can.specs.Message as can
+use Rattle.can.proofs.KnownLaws.{message-known}
 use Rattle.can.proofs.MessageLaws.{message-length}
 use Rattle.objects.specs.Kinds.{message}
 use Rattle.objects.specs.Items.{known}
@@ -37,8 +36,7 @@ returns-2 c =
     let r = s .args .r in
     let f = c .before .before .before .before .before .before .before .before .before .before .before .before .before .refuse .ensures in
     let m = c .before .before .before .before .before .before .before .before .before .before .before .before .if1 .left in
-    let g = s .good .0 .1 .1 in
-    let v : can.ValidMessage r = record { header = search (needs, g .0); unit = taken f m .unit; channel = g .1 .0 .1; flags = g .1 .1 .0 .1; dlc = g .1 .1 .1 .0 .1; id = g .1 .1 .1 .1 .0 .1; long = length-unmapped ℕ (r .bytes) 8 (g .1 .1 .1 .1 .1 .0 .1 .0 .1); bytes = λ i l. elem-fits-field w8 w8 (r .bytes) _ i (g .1 .1 .1 .1 .1 .0 .1 .1) tt .fits } in
+    let v = message-known r (s .good .0) (taken f m .unit) in
     closed message r (ap (λ (n : ℕ). headerLength + n) (sym (message-length r))) f m v (then (c .before .before .before .before .before .before .before .before .before .before .put-header .ensures) (c .before .before .before .before .before .before .put-message .ensures) refl) (c .before .before .close .ensures)
 
 pub write-message-spec : {M : Type 1} → statement M

@@ -7,7 +7,7 @@ use lib.ListN.{length}
 use Rattle.fields.specs.Numbers.{le}
 use Rattle.fields.proofs.Writing.{then}
 use Rattle.headers.specs.Header.{headerLength, head, header}
-use Rattle.can.specs.Overload as can
+use Rattle.can.proofs.KnownLaws.{overload-known}
 use Rattle.can.proofs.OverloadLaws.{overload-length}
 use Rattle.objects.specs.Kinds.{overload}
 use Rattle.objects.specs.Items.{known}
@@ -36,8 +36,7 @@ returns-2 c =
     let r = s .args .r in
     let f = c .before .before .before .before .before .before .before .before .before .before .before .before .before .refuse .ensures in
     let m = c .before .before .before .before .before .before .before .before .before .before .before .before .if1 .left in
-    let g = s .good .0 .1 .1 in
-    let v : can.ValidOverload r = record { header = search (needs, g .0); unit = taken f m .unit; channel = g .1 .0 .1 } in
+    let v = overload-known r (s .good .0) (taken f m .unit) in
     closed overload r (ap (λ (n : ℕ). headerLength + n) (sym (overload-length r))) f m v (then (c .before .before .before .before .before .before .before .before .before .before .put-header .ensures) (c .before .before .before .before .before .before .put-overload .ensures) refl) (c .before .before .close .ensures)
 
 pub write-overload-spec : {M : Type 1} → statement M

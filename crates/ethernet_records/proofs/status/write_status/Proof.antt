@@ -7,7 +7,7 @@ use lib.ListN.{length}
 use Rattle.fields.specs.Numbers.{le}
 use Rattle.fields.proofs.Writing.{then}
 use Rattle.headers.specs.Header.{headerLength, head, header}
-use Rattle.ethernet.specs.Status as ethernet
+use Rattle.ethernet.proofs.KnownLaws.{status-known}
 use Rattle.ethernet.proofs.StatusLaws.{status-length}
 use Rattle.objects.specs.Kinds.{status}
 use Rattle.objects.specs.Items.{known}
@@ -36,8 +36,7 @@ returns-2 c =
     let r = s .args .r in
     let f = c .before .before .before .before .before .before .before .before .before .before .before .before .before .refuse .ensures in
     let m = c .before .before .before .before .before .before .before .before .before .before .before .before .if1 .left in
-    let g = s .good .0 .1 .1 in
-    let v : ethernet.ValidStatus r = record { header = search (needs, g .0); unit = taken f m .unit; channel = g .1 .0 .1; flags = g .1 .1 .0 .1; link = g .1 .1 .1 .0 .1; phy = g .1 .1 .1 .1 .0 .1; duplex = g .1 .1 .1 .1 .1 .0 .1; mdi = g .1 .1 .1 .1 .1 .1 .0 .1; connector = g .1 .1 .1 .1 .1 .1 .1 .0 .1; clock = g .1 .1 .1 .1 .1 .1 .1 .1 .0 .1; pairs = g .1 .1 .1 .1 .1 .1 .1 .1 .1 .0 .1; hardware = g .1 .1 .1 .1 .1 .1 .1 .1 .1 .1 .0 .1; bitrate = g .1 .1 .1 .1 .1 .1 .1 .1 .1 .1 .1 .0 .1 } in
+    let v = status-known r (s .good .0) (taken f m .unit) in
     closed status r (ap (λ (n : ℕ). headerLength + n) (sym (status-length r))) f m v (then (c .before .before .before .before .before .before .before .before .before .before .put-header .ensures) (c .before .before .before .before .before .before .put-status .ensures) refl) (c .before .before .close .ensures)
 
 pub write-status-spec : {M : Type 1} → statement M

@@ -3,13 +3,12 @@ use mathlib.Core.Path.{_≡_, refl, sym, ap, _∙_}
 use mathlib.Core.Bool.{Bool}
 use Prim.Native.Nat.{ℕ, _+_}
 use native.Mathlib.Omega.{arith}
-use borrow.Author.Needs.{needs, length-unmapped, elem-fits-field}
-use mir.Syntax.{w8}
+use borrow.Author.Needs.{needs}
 use lib.ListN.{length}
 use Rattle.fields.specs.Numbers.{le}
 use Rattle.fields.proofs.Writing.{then}
 use Rattle.headers.specs.Header.{headerLength, head, header}
-use Rattle.flexray.specs.Receive as flexray
+use Rattle.flexray.proofs.KnownLaws.{receive-known}
 use Rattle.flexray.proofs.ReceiveLaws.{receive-length}
 use Rattle.objects.specs.Kinds.{receive}
 use Rattle.objects.specs.Items.{known}
@@ -39,8 +38,7 @@ returns-2 c =
     let r = s .args .r in
     let f = c .before .before .before .before .before .before .before .before .before .before .before .before .before .refuse .ensures ∙ ap (λ (ok : Bool). refusalBy 50 (r .header .unit) ok 330 (length (s .args .out .now))) (c .before .before .before .before .before .before .before .before .before .before .before .before .before .before .counts-ok .ensures) in
     let m = c .before .before .before .before .before .before .before .before .before .before .before .before .if1 .left in
-    let g = s .good .0 .1 .1 in
-    let v : flexray.ValidReceive r = record { header = search (needs, g .0); unit = taken f m .unit; channel = g .1 .0 .1; version = g .1 .1 .0 .1; mask = g .1 .1 .1 .0 .1; direction = g .1 .1 .1 .1 .0 .1; client = g .1 .1 .1 .1 .1 .0 .1; cluster = g .1 .1 .1 .1 .1 .1 .0 .1; id = g .1 .1 .1 .1 .1 .1 .1 .0 .1; crca = g .1 .1 .1 .1 .1 .1 .1 .1 .0 .1; crcb = g .1 .1 .1 .1 .1 .1 .1 .1 .1 .0 .1; total = g .1 .1 .1 .1 .1 .1 .1 .1 .1 .1 .0 .1; stored = g .1 .1 .1 .1 .1 .1 .1 .1 .1 .1 .1 .0 .1; cycle = g .1 .1 .1 .1 .1 .1 .1 .1 .1 .1 .1 .1 .0 .1; tag = g .1 .1 .1 .1 .1 .1 .1 .1 .1 .1 .1 .1 .1 .0 .1; state = g .1 .1 .1 .1 .1 .1 .1 .1 .1 .1 .1 .1 .1 .1 .0 .1; flags = g .1 .1 .1 .1 .1 .1 .1 .1 .1 .1 .1 .1 .1 .1 .1 .0 .1; long = length-unmapped ℕ (r .bytes) 254 (g .1 .1 .1 .1 .1 .1 .1 .1 .1 .1 .1 .1 .1 .1 .1 .1 .0 .1 .0 .1); bytes = λ i l. elem-fits-field w8 w8 (r .bytes) _ i (g .1 .1 .1 .1 .1 .1 .1 .1 .1 .1 .1 .1 .1 .1 .1 .1 .0 .1 .1) tt .fits; counts = taken f m .content } in
+    let v = receive-known r (s .good .0) (taken f m .unit) (taken f m .content) in
     closed receive r (ap (λ (n : ℕ). headerLength + n) (sym (receive-length r))) f m v (then (c .before .before .before .before .before .before .before .before .before .before .put-header .ensures) (c .before .before .before .before .before .before .put-receive .ensures) refl) (c .before .before .close .ensures)
 
 pub write-receive-spec : {M : Type 1} → statement M

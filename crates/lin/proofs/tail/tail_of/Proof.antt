@@ -1,5 +1,5 @@
 -- `lin::tail_of` meets its contract: the length decides, as in the definition. Assumes nothing.
-use mathlib.Core.Path.{refl, ap, _∙_}
+use mathlib.Core.Path.{ap, _∙_}
 use lib.Ieee.{binary64, ofBits}
 use borrow.Author.Needs.{needs}
 use borrow.Author.Tests.{ne-eqb}

@@ -3,20 +3,20 @@ use mathlib.Core.Path.{_≡_, refl, sym, ap, _∙_}
 use mathlib.Core.Bool.{Bool}
 use Prim.Native.Nat.{ℕ, _+_, _≤_}
 use native.Mathlib.Omega.{arith}
-use borrow.Author.Needs.{needs, length-unmapped, elem-fits-field}
-use mir.Syntax.{w8, w64}
+use borrow.Author.Needs.{needs}
 use lib.ListN.{length}
 use Rattle.fields.specs.Numbers.{le}
 use Rattle.fields.proofs.Writing.{then}
 use Rattle.headers.specs.Header.{headerLength, head, header}
 use Rattle.lin.specs.Message as lin
 use Rattle.lin.specs.Tail.{tail}
+use Rattle.lin.proofs.KnownLaws.{message-known}
 use Rattle.lin.proofs.MessageLaws.{message-length}
 use Rattle.objects.specs.Kinds.{linMessage}
 use Rattle.objects.specs.Items.{known}
 use Rattle.outcomes.specs.Writes.{refusalBy}
 use Rattle.outcomes.proofs.Writing.{refused, refusal-is, Taken, taken, closed}
-use Rattle.lin_records.proofs.TailFits.{fit-tail, tail-short}
+use Rattle.lin_records.proofs.TailFits.{tail-short}
 use Rattle.lin_records.proofs.message.write_message.Statement.{statement}
 use Rattle.lin_records.proofs.message.write_message.Tie as tie
 
@@ -56,8 +56,7 @@ returns-2 c =
     let n : 164 + c .before .before .before .before .before .before .before .before .before .before .before .before .before .before .before .tail-length .result ≡ headerLength + length (lin.message r) = omega (arith, message-length r, c .before .before .before .before .before .before .before .before .before .before .before .before .before .before .before .tail-length .ensures) in
     let f = c .before .before .before .before .before .before .before .before .before .before .before .before .before .refuse .ensures ∙ ap (λ (ok : Bool). refusalBy 57 (r .header .unit) ok (164 + c .before .before .before .before .before .before .before .before .before .before .before .before .before .before .before .tail-length .result) (length (s .args .out .now))) (c .before .before .before .before .before .before .before .before .before .before .before .before .before .before .tail-ok .ensures) in
     let m = c .before .before .before .before .before .before .before .before .before .before .before .before .if1 .left in
-    let g = s .good .0 .1 .1 in
-    let v : lin.ValidMessage r = record { header = search (needs, g .0); unit = taken f m .unit; start = g .1 .0 .1; baud = g .1 .1 .0 .1; channel = g .1 .1 .1 .0 .1; breaking = g .1 .1 .1 .1 .0 .1; delimiter = g .1 .1 .1 .1 .1 .0 .1; supplier = g .1 .1 .1 .1 .1 .1 .0 .1; message = g .1 .1 .1 .1 .1 .1 .1 .0 .1; nad = g .1 .1 .1 .1 .1 .1 .1 .1 .0 .1; id = g .1 .1 .1 .1 .1 .1 .1 .1 .1 .0 .1; dlc = g .1 .1 .1 .1 .1 .1 .1 .1 .1 .1 .0 .1; model = g .1 .1 .1 .1 .1 .1 .1 .1 .1 .1 .1 .0 .1; nine = length-unmapped ℕ (r .stamps) 9 (g .1 .1 .1 .1 .1 .1 .1 .1 .1 .1 .1 .1 .0 .1 .0 .1); stamps = λ i l. elem-fits-field w64 w64 (r .stamps) _ i (g .1 .1 .1 .1 .1 .1 .1 .1 .1 .1 .1 .1 .0 .1 .1) tt .fits; eight = length-unmapped ℕ (r .bytes) 8 (g .1 .1 .1 .1 .1 .1 .1 .1 .1 .1 .1 .1 .1 .0 .1 .0 .1); bytes = λ i l. elem-fits-field w8 w8 (r .bytes) _ i (g .1 .1 .1 .1 .1 .1 .1 .1 .1 .1 .1 .1 .1 .0 .1 .1) tt .fits; checksum = g .1 .1 .1 .1 .1 .1 .1 .1 .1 .1 .1 .1 .1 .1 .0 .1; direction = g .1 .1 .1 .1 .1 .1 .1 .1 .1 .1 .1 .1 .1 .1 .1 .0 .1; simulated = g .1 .1 .1 .1 .1 .1 .1 .1 .1 .1 .1 .1 .1 .1 .1 .1 .0 .1; triggered = g .1 .1 .1 .1 .1 .1 .1 .1 .1 .1 .1 .1 .1 .1 .1 .1 .1 .0 .1; index = g .1 .1 .1 .1 .1 .1 .1 .1 .1 .1 .1 .1 .1 .1 .1 .1 .1 .1 .0 .1; associated = g .1 .1 .1 .1 .1 .1 .1 .1 .1 .1 .1 .1 .1 .1 .1 .1 .1 .1 .1 .0 .1; machine = g .1 .1 .1 .1 .1 .1 .1 .1 .1 .1 .1 .1 .1 .1 .1 .1 .1 .1 .1 .1 .0 .1; state = g .1 .1 .1 .1 .1 .1 .1 .1 .1 .1 .1 .1 .1 .1 .1 .1 .1 .1 .1 .1 .1 .0 .1; tail = fit-tail (r .tail) _ (g .1 .1 .1 .1 .1 .1 .1 .1 .1 .1 .1 .1 .1 .1 .1 .1 .1 .1 .1 .1 .1 .1 .0); exact = taken f m .content } in
+    let v = message-known r (s .good .0) (taken f m .unit) (taken f m .content) in
     closed linMessage r n f m v (then (c .before .before .before .before .before .before .before .before .before .before .put-header .ensures) (c .before .before .before .before .before .before .put-message .ensures) refl) (c .before .before .close .ensures)
 
 pub write-message-spec : {M : Type 1} → statement M

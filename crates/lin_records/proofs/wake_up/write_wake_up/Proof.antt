@@ -7,7 +7,7 @@ use lib.ListN.{length}
 use Rattle.fields.specs.Numbers.{le}
 use Rattle.fields.proofs.Writing.{then}
 use Rattle.headers.specs.Header.{headerLength, head, header}
-use Rattle.lin.specs.WakeUp as lin
+use Rattle.lin.proofs.KnownLaws.{wake-up-known}
 use Rattle.lin.proofs.WakeUpLaws.{wake-up-length}
 use Rattle.objects.specs.Kinds.{wakeUp}
 use Rattle.objects.specs.Items.{known}
@@ -36,8 +36,7 @@ returns-2 c =
     let r = s .args .r in
     let f = c .before .before .before .before .before .before .before .before .before .before .before .before .before .refuse .ensures in
     let m = c .before .before .before .before .before .before .before .before .before .before .before .before .if1 .left in
-    let g = s .good .0 .1 .1 in
-    let v : lin.ValidWakeUp r = record { header = search (needs, g .0); unit = taken f m .unit; start = g .1 .0 .1; baud = g .1 .1 .0 .1; channel = g .1 .1 .1 .0 .1; info = g .1 .1 .1 .1 .0 .1; signal = g .1 .1 .1 .1 .1 .0 .1; external = g .1 .1 .1 .1 .1 .1 .0 .1 } in
+    let v = wake-up-known r (s .good .0) (taken f m .unit) in
     closed wakeUp r (ap (λ (n : ℕ). headerLength + n) (sym (wake-up-length r))) f m v (then (c .before .before .before .before .before .before .before .before .before .before .put-header .ensures) (c .before .before .before .before .before .before .put-wake-up .ensures) refl) (c .before .before .close .ensures)
 
 pub write-wake-up-spec : {M : Type 1} → statement M

@@ -1,0 +1,62 @@
+-- The sizes of a LIN message are those of the type list, and the size decides how it ends. Assumes nothing.
+use mathlib.Core.Path.{_≡_, sym, ap, _∙_}
+use mathlib.Core.List.{List}
+use mathlib.Core.Logic.{⊎-elim}
+use Prim.Native.Nat.{ℕ, _+_, _≤_}
+use native.Mathlib.Omega.{arith}
+use lib.ListN.{length, drop, length-drop}
+use lib.Ieee.{Float}
+use Rattle.fields.specs.Numbers.{le}
+use Rattle.fields.specs.Arrays.{array}
+use Rattle.headers.specs.declared.header.Header.{Header}
+use Rattle.headers.specs.Header.{headerLength}
+use Rattle.headers.specs.Types.{oneOf, Has, typeList, sizesIn}
+use Rattle.headers.specs.Layout.{Sized}
+use Rattle.headers.proofs.TypeList.{types-exact}
+use Rattle.lin.specs.declared.message.Message.{Message}
+use Rattle.lin.specs.declared.tail.Tail.the-variants.{Rates}
+use Rattle.lin.specs.Bus.{bus}
+use Rattle.lin.specs.Tail.{tail, Decides}
+use Rattle.lin.specs.Message.{synch, descriptor, status, machines, message, messageOf}
+use Rattle.lin.proofs.TailLaws.{sizeWith, Ends, tail-ends, same-length, decides}
+
+pub message-length : (r : Message) → length (message r) ≡ 132 + length (tail (r .tail))
+unfolding message synch bus descriptor array status machines le
+message-length r = omega arith
+
+pub message-sized : (r : Message) → Sized 57 (message r)
+unfolding typeList sizesIn
+message-sized r = types-exact 57 _ .1 (rw message-length (tail-ends (r .tail)))
+
+-- a body of one of the three sizes
+module _ (b : List ℕ) (s : Sized 57 b) where
+  size : Has (oneOf 164 168 184) (headerLength + length b)
+  unfolding typeList sizesIn
+  size = types-exact 57 _ .0 s
+
+  pub long : 132 ≤ length b
+  long =
+      ⊎-elim (λ (e : headerLength + length b ≡ 164). omega arith)
+      (λ u. ⊎-elim (λ (e : headerLength + length b ≡ 168). omega arith) (λ (e : headerLength + length b ≡ 184). omega arith) u) size
+
+  same-size : headerLength + length b ≡ sizeWith (drop 132 b)
+  same-size = let l = long in rw length-drop (omega arith)
+
+  pub ends : Ends (drop 132 b)
+  ends = rw same-size at size
+
+-- the size decides how a message ends: one that is written, and one that is read
+
+pub size-by-tail : (r : Message) → Decides (headerLength + length (message r)) (r .tail)
+size-by-tail r = decides _ (r .tail) (ap (λ (n : ℕ). headerLength + n) (message-length r))
+
+module _ (h : Header) (b : List ℕ) (s : Sized 57 b) where
+  pub tail-by-size : Decides (headerLength + length b) (messageOf h b .tail)
+  unfolding messageOf
+  tail-by-size = decides _ _ (same-size b s ∙ ap (λ (n : ℕ). headerLength + (132 + n)) (sym (same-length (drop 132 b) (ends b s))))
+
+  -- an object of 168 bytes has no exact rate
+  pub no-exact-rate : headerLength + length b ≡ 168 → (r : ℕ) (x : Float) (a c : ℕ) → messageOf h b .tail ≡ Rates r x a c → ⊥
+  no-exact-rate e r x a c q =
+      let k : headerLength + length b ≡ 184 = tail-by-size .rates .1 (r, x, a, c, q) in
+      omega arith

@@ -1,0 +1,6 @@
+-- Of entries and slips and their bytes.
+pub mod BigEndian
+pub mod EntryBytes
+pub mod SlipFaults
+pub mod SlipBytes
+pub mod Cuts

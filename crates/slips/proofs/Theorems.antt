@@ -1,0 +1,7 @@
+-- What the check answers, said of logs and bundles.
+pub mod LogEntries
+pub mod Told
+pub mod Verdicts
+pub mod Sharing
+pub mod Honest
+pub mod Counted

@@ -1,0 +1,73 @@
+-- Any sharing-out of a log's objects among at most eight rising desks makes a bundle that is accepted. Assumes nothing.
+use mathlib.Core.Path.{_≡_, refl, ap, _∙_}
+use mathlib.Core.List.{List, [], _∷_, _++_}
+use mathlib.Core.Logic.{inl, inr}
+use Prim.Native.Nat.{ℕ, suc, _+_, _≤_}
+use native.Mathlib.Omega.{arith}
+use lib.ListN.{length}
+use Rattle.fields.specs.Numbers.{Bytes, be}
+use Rattle.objects.specs.Items.{Item, padded, LogOf}
+use Rattle.objects.specs.Named.{Entry, In, Rising, entriesOf}
+use Rattle.objects.proofs.Naming.{entries-rise, entries-fit, room}
+use Rattle.slips.specs.declared.pass.Verdict.the-variants.{Accepted}
+use Rattle.slips.specs.Bundle.{Slip, entryBytes, entriesBytes, slipLength, slipBytes, bundleBytes, Fits, AllFit, AllByRule}
+use Rattle.slips.specs.Check.{longest, checkOf}
+use Rattle.slips.specs.Claims.{Honest}
+use Rattle.slips.specs.Share.{share, Sharing}
+use Rattle.slips.proofs.Format.BigEndian.{bytes-cons, bytes-append, bytes-be}
+use Rattle.slips.proofs.Theorems.Verdicts.{check-exact}
+use Rattle.slips.proofs.Theorems.Sharing.{desks-once, share-times, share-on, share-rule, share-length}
+
+-- a bundle by the rule is bytes
+
+bytes-entries : (es : List Entry) → Bytes (entriesBytes es)
+bytes-entries [] = λ i. omega arith
+bytes-entries (e ∷ es) =
+    bytes-append (entryBytes e) (entriesBytes es)
+    (bytes-append (be 4 (e .start) ++ be 4 (e .size)) (be 4 (e .kind)) (bytes-append (be 4 (e .start)) (be 4 (e .size)) (bytes-be 4 _) (bytes-be 4 _)) (bytes-be 4 _))
+    (bytes-entries es)
+
+bytes-bundle : (least : ℕ) (ss : List Slip) → AllByRule least ss → Bytes (bundleBytes ss)
+bytes-bundle least [] w = λ i. omega arith
+bytes-bundle least (s ∷ ss) w =
+    bytes-append (slipBytes s) (bundleBytes ss)
+    (bytes-append (be 4 (slipLength s)) (1 ∷ s .desk ∷ entriesBytes (s .entries)) (bytes-be 4 _)
+    (bytes-cons (s .desk ∷ entriesBytes (s .entries)) (omega arith) (bytes-cons (entriesBytes (s .entries)) (w .0 .desk) (bytes-entries (s .entries)))))
+    (bytes-bundle (s .desk + 1) ss (w .1))
+
+-- the entries of a log
+
+all-fit : (es : List Entry) → ((e : Entry) → In e es → Fits e) → AllFit es
+all-fit [] f = tt
+all-fit (e ∷ es) f = (f e (inl refl), all-fit es (λ x i. f x (inr i)))
+
+entries-length : (at : ℕ) (is : List Item) → length (entriesOf at is) ≡ length is
+entries-length at [] = refl
+entries-length at (i ∷ is) = ap suc (entries-length (at + length (padded i)) is)
+
+-- the bundle is bytes, and accepted with as many objects as the log has
+pub record Passes (s : List ℕ) (is : List Item) (b : List ℕ) : Type 0 where
+  pub bytes : Bytes b
+  pub accepted : checkOf s b ≡ Accepted (length is)
+
+pub honest-passes : (s : List ℕ) (is : List Item) → Bytes s → length s ≤ longest → LogOf s is
+    → (who : Entry → ℕ) (ds : List ℕ) → Sharing who ds (entriesOf 0 is) → Passes s is (bundleBytes (share who ds (entriesOf 0 is)))
+honest-passes s is bs short log who ds w =
+    let os : List Entry = entriesOf 0 is in
+    let ss : List Slip = share who ds os in
+    let up : Rising os = entries-rise log in
+    let fit : AllFit os = all-fit os (λ e i. let f = entries-fit bs log short e i in record { start = f .0; size = f .1; kind = f .2 }) in
+    let rule : AllByRule 0 ss = share-rule who os up fit (omega (arith, room log, entries-length 0 is)) 0 ds (w .desks) in
+    let bytes : Bytes (bundleBytes ss) = bytes-bundle 0 ss rule in
+    let honest : Honest s (bundleBytes ss) (length is) =
+    record {
+      formed =
+          record { short = short; items = is; log = log; slips = ss; bundle = record { bytes = refl; few = rw (share-length who os ds) (w .few); rule = rule } };
+      many = refl;
+      right =
+          record {
+            named = λ e i. share-on who os e ds i;
+            once = λ o i. share-times who os up o i ds ∙ desks-once (who o) 0 ds (w .desks) (w .all o i);
+          };
+    } in
+    record { bytes = bytes; accepted = check-exact s (bundleBytes ss) bs bytes (length is) .1 honest }

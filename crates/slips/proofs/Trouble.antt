@@ -1,0 +1,4 @@
+-- Of entries, and of the first trouble.
+pub mod Entries
+pub mod Least
+pub mod Troubles

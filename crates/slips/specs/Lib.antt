@@ -1,0 +1,11 @@
+pub mod Bundle
+pub mod Cut
+pub mod Right
+pub mod Trouble
+pub mod Check
+pub mod Claims
+pub mod Share
+pub mod Kinds
+pub mod Marked
+pub mod Wrong
+pub mod Inner

@@ -1,0 +1,131 @@
+// The one pass over the log, with the slips beside it.
+use crate::bundle::Bundle;
+use crate::bundle::Place;
+use crate::bundle::read;
+use crate::merge::Merged;
+use crate::merge::advance;
+use objects::Answer;
+use objects::Cursor;
+ghost use mathlib.Core.Path.{_≡_};
+ghost use Rattle.slips.specs.Check.{checkOf};
+ghost use Rattle.slips.specs.Inner.Places.{AllPlaced};
+ghost use Rattle.slips.specs.Inner.Pass.{restOf, layOf};
+
+// Accepted with the number of the log's objects, or refused by a number at a place.
+pub enum Verdict {
+    Accepted(usize),
+    Refused { number: u32, place: usize },
+}
+
+// The refusals of a pair, by document 01's names.
+const STRAY: u32 = 25;
+
+const TWICE: u32 = 26;
+
+const UNLISTED: u32 = 27;
+
+const LONG: u32 = 28;
+
+// The most bytes that a log may have.
+const LONGEST: usize = 4294967295;
+
+// Trouble is met: the walk goes on alone, and the trouble is told where it ends well.
+fn rest(log: &[u8], from: Cursor, number: u32, place: usize) -> Verdict
+    ensures { λ r. ⌜ r ≡ restOf (now (log .entry)) (from .at) number place ⌝ }
+{
+    let mut c = from;
+    loop {
+        let step = c.step(log);
+        let answer = step.answer;
+        let Answer::Object {
+            start: _,
+            size: _,
+            kind: _,
+        } = answer
+        else {
+            match answer {
+                Answer::Refused {
+                    number: k,
+                    place: p,
+                } => {
+                    return Verdict::Refused {
+                        number: k,
+                        place: p,
+                    };
+                }
+                _ => {
+                    return Verdict::Refused { number, place };
+                }
+            }
+        };
+        let next = step.next;
+        c = next;
+    }
+}
+
+// The walk and the merge together: how many objects there are, or the first refusal.
+fn lay(log: &[u8], b: &[u8], places: [Place; Bundle::SLIPS]) -> Verdict
+    requires { ⌜ AllPlaced (now b) places ⌝ }
+    ensures { λ r. ⌜ r ≡ layOf (now (log .entry)) (now (b .entry)) places ⌝ }
+{
+    let mut c = Cursor::new();
+    let mut slips = places;
+    let mut n: usize = 0;
+    loop {
+        let step = c.step(log);
+        let answer = step.answer;
+        let next = step.next;
+        let Answer::Object { start, size, kind } = answer else {
+            match answer {
+                Answer::Refused { number, place } => {
+                    return Verdict::Refused { number, place };
+                }
+                _ => {
+                    let end = advance(slips, b, Merged::PAST, 0, 0);
+                    if end.low < Merged::PAST {
+                        return Verdict::Refused {
+                            number: STRAY,
+                            place: end.low,
+                        };
+                    }
+                    return Verdict::Accepted(n);
+                }
+            }
+        };
+        let m = advance(slips, b, start, size, kind);
+        if m.low < Merged::PAST {
+            return rest(log, next, STRAY, m.low);
+        }
+        if m.hits == 0 {
+            return rest(log, next, UNLISTED, start);
+        }
+        if m.hits != 1 {
+            return rest(log, next, TWICE, start);
+        }
+        let moved = m.places;
+        slips = moved;
+        n += 1;
+        c = next;
+    }
+}
+
+// Whether the slips of the bundle name the objects of the log, each exactly once. Writes nothing.
+pub fn check(log: &[u8], bundle: &[u8]) -> Verdict
+    ensures { λ r. ⌜ r ≡ checkOf (now (log .entry)) (now (bundle .entry)) ⌝ }
+{
+    if LONGEST < log.len() {
+        return Verdict::Refused {
+            number: LONG,
+            place: 0,
+        };
+    }
+    let cut = read(bundle);
+    if cut.number != 0 {
+        return Verdict::Refused {
+            number: cut.number,
+            place: cut.place,
+        };
+    }
+    let places = cut.places;
+    lay(log, bundle, places)
+}
