@@ -1,1 +1,2 @@
 pub mod TailFits
+pub mod Exact

@@ -1,1 +1,4 @@
 pub mod ForeignLaws
+pub mod Copies
+pub mod Rewriting
+pub mod ForeignBack

@@ -1,0 +1,4 @@
+pub mod Holding
+pub mod FramedWriting
+pub mod FramedReading
+pub mod Exact

@@ -1,0 +1,22 @@
+-- `ethernet_records::frame::read_as` meets its contract: the record of what a look cut out of the log; of the two types it is the same. Assumes nothing.
+use borrow.Author.Needs.{needs}
+use Rattle.headers.specs.Types.{typeList, sizesIn}
+use Rattle.objects.specs.Kinds.{frame, forwardedFrame}
+use Rattle.outcomes.specs.Reads.{recordIn}
+use Rattle.outcomes.proofs.Looks.{look-within}
+use Rattle.ethernet_records.proofs.FramedReading.{reads-as}
+use Rattle.ethernet_records.proofs.frame.read_as.Statement.{statement}
+use Rattle.ethernet_records.proofs.frame.read_as.Tie as tie
+
+cut-requires : tie.Need-cut-requires
+cut-requires c κs = look-within _ _ _ (c .look .ensures)
+
+returns : tie.Need-returns
+unfolding recordIn typeList sizesIn
+returns c =
+    let l = c .before .before .before .look .ensures in
+    let o = c .before .before .cut .ensures in
+    (reads-as frame (λ f. f .value) _ _ l o (c .before .frame-in .ensures), reads-as forwardedFrame (λ f. f .value) _ _ l o (c .before .frame-in .ensures))
+
+pub read-as-spec : {M : Type 1} → statement M
+read-as-spec = tie.close (tie.spec (λ c κs. search needs) cut-requires (λ c κs. search needs) returns)
