@@ -60,7 +60,7 @@ fn lesser(a: usize, b: usize) -> usize
 }
 
 // The slips, each moved past its entry of this object.
-pub fn advance(
+pub(crate) fn advance(
     places: [Place; Bundle::SLIPS],
     b: &[u8],
     start: usize,
