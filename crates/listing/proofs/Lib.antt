@@ -1,0 +1,5 @@
+pub mod Decimals
+pub mod Texts
+pub mod Listings
+pub mod Reports
+pub mod Exact
