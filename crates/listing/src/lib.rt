@@ -1,14 +1,14 @@
 // What the lister prints, made in a buffer, and the lines that the desk program prints.
 mod words;
 
-pub use words::accepted_line;
-pub use words::put;
-pub use words::refused_line;
 use intake::Input;
 use objects::Answer;
 use objects::Cursor;
+pub use words::accepted_line;
 use words::end_line;
 use words::object_line;
+pub use words::put;
+pub use words::refused_line;
 ghost use Prim.Native.Nat.{_+_, _*_, _≤_};
 ghost use mathlib.Core.Path.{_≡_};
 ghost use lib.ListN.{length};
