@@ -1,0 +1,4 @@
+// Answers the cases of docs/src/examples/compare.rs: the stream comes from standard input, the replies go to standard output.
+fn main() {
+    cases::serve(libc::STDIN_FILENO, libc::STDOUT_FILENO, 1000000);
+}

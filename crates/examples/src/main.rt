@@ -1,0 +1,22 @@
+// Runs document 01's examples that are not marked, over the proved calls, and prints what came out: a line an example.
+mod reading;
+mod samples;
+mod tell;
+mod writing;
+
+fn main() {
+    reading::positions();
+    reading::heads();
+    reading::ends();
+    reading::padding();
+    reading::contents();
+    reading::frames();
+    reading::foreigners();
+    reading::tails();
+    reading::counts();
+    reading::records();
+    writing::units();
+    writing::rooms();
+    writing::counts();
+    writing::orders();
+}

@@ -1,0 +1,78 @@
+// Objects that the examples begin with, and records.
+use headers::Header;
+ghost use mathlib.Core.Path.{_≡_};
+ghost use lib.ListN.{length};
+
+// The overload of document 01's M2.
+pub fn overload() -> [u8; 36]
+    ensures { λ r. ⌜ 36 ≡ length r ⌝ }
+{
+    let mut log = [0u8; 36];
+    let header = header(2);
+    can_records::write_overload(can::Overload { header, channel: 1 }, &mut log);
+    log
+}
+
+// A frame of 1,612 bytes, all zero: the whole object has 1,676, and four bytes of room are left.
+pub fn frame() -> [u8; 1680]
+    ensures { λ r. ⌜ 1680 ≡ length r ⌝ }
+{
+    let mut log = room();
+    headers::put_header(&mut log, 120, 1676, header(2));
+    fields::put16(&mut log, 32, 32);
+    fields::put16(&mut log, 54, 1612);
+    log
+}
+
+// A foreign object of 17 bytes, type 9999, and its padding.
+pub fn foreigner() -> [u8; 20]
+    ensures { λ r. ⌜ 20 ≡ length r ⌝ }
+{
+    let mut log = [0u8; 20];
+    fields::put32(&mut log, 0, Header::SIGNATURE);
+    fields::put16(&mut log, 4, 16);
+    fields::put32(&mut log, 8, 17);
+    fields::put32(&mut log, 12, 9999);
+    log
+}
+
+// Zeros: room for the longest frame and one object more.
+pub fn room() -> [u8; 1680]
+    ensures { λ r. ⌜ 1680 ≡ length r ⌝ }
+{
+    [0; 1680]
+}
+
+// A header with nanoseconds or another unit.
+pub fn header(unit: u32) -> Header {
+    Header {
+        unit,
+        client: 0,
+        version: 0,
+        stamp: 1000000,
+    }
+}
+
+// A FlexRay receive with its data count and its byte count.
+pub fn receive(unit: u32, stored: u16, total: u16) -> flexray::Receive {
+    let bytes = [7u8; 254];
+    flexray::Receive {
+        header: header(unit),
+        channel: 1,
+        version: 1,
+        mask: 1,
+        direction: 0,
+        client: 0,
+        cluster: 0,
+        id: 5,
+        crca: 0,
+        crcb: 0,
+        total,
+        stored,
+        cycle: 0,
+        tag: 0,
+        state: 0,
+        flags: 0,
+        bytes,
+    }
+}
