@@ -1,11 +1,11 @@
--- 01, "Marked examples": M1 to M10, a row for each thing that an example says. `marked-examples` of proofs/Marked: every reply is the one told.
+-- 01, "Marked examples": M1 to M14, a row for each thing that an example says. `marked-examples` of proofs/Marked: every reply is the one told.
 use Prim.Native.Nat.{ℕ}
 use Prim.Native.String.{String}
 use mathlib.Core.List.{List, [], _∷_, _++_}
 use lib.ListN.{take, set}
 use Rattle.fields.specs.Numbers.{zeros}
 use Rattle.marked.specs.Hex.{hex}
-use Rattle.marked.specs.Questions.{Question, walk, next, overload, Reply, objects, refused, object, channel, reply}
+use Rattle.marked.specs.Questions.{Question, walk, next, overload, check, Reply, objects, refused, object, channel, accepted, reply}
 
 unfoldable pub m2 : List ℕ
 m2 = hex "4C4F424A 2000 0100 24000000 03000000 02000000 0000 0000 40420F0000000000 0100 0000"
@@ -18,6 +18,9 @@ m3 =
 
 unfoldable pub m9 : List ℕ
 m9 = hex "4C4F424A 1000 0000 10000000 0F270000"
+
+unfoldable pub m11 : List ℕ
+m11 = hex "0000001A 01 01 00000000 00000024 00000003 00000024 00000024 00000003"
 
 pub record Row : Type 0 where
   pub name : String
@@ -42,7 +45,10 @@ marked =
     ∷ row "M8: M2 with size 40" (walk (set m2 8 40)) (refused 3 0)
     ∷ row "M9: foreign type 9999, size and header size 16" (walk m9) (objects 1)
     ∷ row "M10: header size 17" (walk (set m9 4 17)) (refused 4 0)
-    -- M11 to M14 stand here once crate `slips` does
+    ∷ row "M11: with log M2 M2" (check (m2 ++ m2) m11) (accepted 2)
+    ∷ row "M12: the same and then desk 2 with the second entry alone" (check (m2 ++ m2) (m11 ++ hex "0000000E 01 02 00000024 00000024 00000003")) (refused 26 36)
+    ∷ row "M13: empty bundle" (check (m2 ++ m2) []) (refused 27 0)
+    ∷ row "M14: empty log" (check [] (hex "00000002 01 05")) (accepted 0)
     ∷ []
 
 abbrev pub replies : List Row → List Reply
