@@ -1,0 +1,15 @@
+// Runs document 01's examples of slips, and of writing frames and foreign objects, and prints what came out: a line an example.
+mod samples;
+mod slip;
+mod tell;
+mod writing;
+
+fn main() {
+    slip::shapes();
+    slip::desks();
+    slip::ninth();
+    slip::troubles();
+    slip::damage();
+    writing::frames();
+    writing::foreigners();
+}
