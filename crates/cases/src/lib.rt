@@ -1,8 +1,7 @@
-// A stream of cases, and what the proved library answers to each: for the comparison with the plain Rust reader of docs/src.
-mod again;
+// Cases, and what the proved library answers to each: for the comparison with the plain Rust reader of docs/src.
 mod replies;
-mod stream;
+mod rewriting;
 
 pub use replies::Reply;
 pub use replies::answer;
-pub use stream::serve;
+pub use rewriting::again;

@@ -1,10 +1,10 @@
--- `cases::next_case` meets its contract: what is read stays in the buffer. Assumes nothing.
+-- `compare::next_case` meets its contract: what is read stays in the buffer. Assumes nothing.
 use mathlib.Core.Path.{sym}
 use native.Mathlib.Omega.{arith}
 use lib.Seq.{length-take-le}
 use borrow.Author.Needs.{needs}
-use Rattle.cases.proofs.stream.next_case.Statement.{statement}
-use Rattle.cases.proofs.stream.next_case.Tie as tie
+use Rattle.compare.proofs.stream.next_case.Statement.{statement}
+use Rattle.compare.proofs.stream.next_case.Tie as tie
 
 slice-aggregate-read-full : tie.Need-slice-aggregate-read-full
 slice-aggregate-read-full c = sym (length-take-le 17 (c .before .before .args .buf .now) (omega arith))

@@ -1,10 +1,10 @@
--- `cases::respond` meets its contract: a case that gives room has its head. Assumes nothing.
+-- `compare::respond` meets its contract: a case that gives room has its head. Assumes nothing.
 use Prim.Native.Nat.{_≤_}
 use native.Mathlib.Omega.{arith}
 use lib.ListN.{length}
 use borrow.Author.Needs.{needs}
-use Rattle.cases.proofs.stream.respond.Statement.{statement}
-use Rattle.cases.proofs.stream.respond.Tie as tie
+use Rattle.compare.proofs.stream.respond.Statement.{statement}
+use Rattle.compare.proofs.stream.respond.Tie as tie
 
 sub-again : tie.Need-sub-again
 sub-again c =

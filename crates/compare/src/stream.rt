@@ -1,15 +1,15 @@
 // Cases one after another from an input, and their replies to an output.
-use crate::again::again;
-use crate::replies::Reply;
-use crate::replies::answer;
+use cases::Reply;
+use cases::again;
+use cases::answer;
 ghost use Prim.Native.Nat.{_≤_};
 ghost use mathlib.Core.Path.{_≡_};
 ghost use mathlib.Core.List.{_++_};
 ghost use lib.ListN.{length};
 ghost use Rattle.fields.specs.Written.{Wrote};
 ghost use Rattle.io.specs.Counts.{Counts};
 ghost use Rattle.cases.specs.Replies.{replyBytes};
 ghost use Rattle.cases.specs.Again.{Roomy};
 
 // The most bytes of a log, and of a bundle.
 const LIMIT: usize = 65536;

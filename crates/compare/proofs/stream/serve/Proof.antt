@@ -1,11 +1,11 @@
--- `cases::serve` keeps to its buffers and ends. Assumes nothing.
+-- `compare::serve` keeps to its buffers and ends. Assumes nothing.
 use Prim.Native.Nat.{_-_}
 use mathlib.Core.Path.{_≡_, sym}
 use lib.ListN.{length}
 use lib.Seq.{length-take-le}
 use borrow.Author.Needs.{needs}
-use Rattle.cases.proofs.stream.serve.Statement.{statement}
-use Rattle.cases.proofs.stream.serve.Tie as tie
+use Rattle.compare.proofs.stream.serve.Statement.{statement}
+use Rattle.compare.proofs.stream.serve.Tie as tie
 
 abbrev Inv-loop : tie.InvT-loop
 Inv-loop input output most buf₀ out₀ done₀ buf out done = (131089 ≡ length buf) × (65576 ≡ length out)

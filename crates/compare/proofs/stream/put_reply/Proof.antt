@@ -1,10 +1,10 @@
--- `cases::put_reply` meets its contract: one number behind the other. Assumes nothing.
+-- `compare::put_reply` meets its contract: one number behind the other. Assumes nothing.
 use mathlib.Core.Path.{refl}
 use Rattle.fields.specs.Numbers.{le}
 use Rattle.fields.proofs.Writing.{then}
 use borrow.Author.Needs.{needs}
-use Rattle.cases.proofs.stream.put_reply.Statement.{statement}
-use Rattle.cases.proofs.stream.put_reply.Tie as tie
+use Rattle.compare.proofs.stream.put_reply.Statement.{statement}
+use Rattle.compare.proofs.stream.put_reply.Tie as tie
 
 returns : tie.Need-returns
 unfolding le

@@ -2,8 +2,8 @@
 use mathlib.Core.Path.{_≡_, sym, ap, _∙_}
 use Rattle.cases.specs.Again.{writtenReply}
 use borrow.Author.Needs.{needs}
-use Rattle.cases.proofs.again.written_reply.Statement.{statement}
-use Rattle.cases.proofs.again.written_reply.Tie as tie
+use Rattle.cases.proofs.rewriting.written_reply.Statement.{statement}
+use Rattle.cases.proofs.rewriting.written_reply.Tie as tie
 
 returns : tie.Need-returns
 returns c = c .told .ensures ∙ ap writtenReply (sym (c .before .before .written .given .1))
