@@ -11,7 +11,7 @@ use denote.Laws.{Is}
 use denote.Struct.Declared as struct
 use denote.Struct.Laws.{val}
 use borrow.Author.Needs.{needs}
-use Rattle.headers.specs.Tests.{unitOk}
+use Rattle.headers.specs.Format.{unitOk}
 use Rattle.can.specs.declared.message.Message.{Message}
 use Rattle.can.specs.Message.{ValidMessage}
 use Rattle.can.proofs.message.Message as message

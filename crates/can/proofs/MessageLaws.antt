@@ -5,8 +5,8 @@ use Prim.Native.Nat.{ℕ}
 use native.Mathlib.Nat.{le-of-eq}
 use lib.ListN.{length, take}
 use lib.Dec.{lit≤}
-use Rattle.fields.specs.Numbers.{Bytes, le, num}
-use Rattle.fields.specs.Arrays.{array}
+use Rattle.fields.specs.Numbers.{Bytes, num}
+use Rattle.fields.specs.Digits.{le, array}
 use Rattle.fields.proofs.Numbers.{val-le}
 use Rattle.fields.proofs.Reading.{more, got, fits}
 use Rattle.fields.proofs.Elements.{length-nums, array-nums, nums-fit, nums-array}
@@ -17,7 +17,8 @@ use Rattle.headers.specs.Layout.{Lawful}
 use Rattle.headers.proofs.TypeList.{listed-exact}
 use Rattle.headers.proofs.Heads.{clear, passes}
 use Rattle.can.specs.declared.message.Message.{Message}
-use Rattle.can.specs.Message.{message, messageOf, messageFault, ValidMessage, messageLayout}
+use Rattle.can.specs.Message.{message, messageFault, ValidMessage, messageLayout}
+use Rattle.can.specs.Fields.{messageOf}
 use Rattle.can.proofs.Bodies.{whole, one-size}
 
 pub message-length : (r : Message) → length (message r) ≡ 16

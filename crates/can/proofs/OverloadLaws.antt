@@ -5,7 +5,8 @@ use Prim.Native.Nat.{ℕ}
 use native.Mathlib.Nat.{le-of-eq}
 use lib.ListN.{length}
 use lib.Dec.{lit≤}
-use Rattle.fields.specs.Numbers.{Bytes, le, num}
+use Rattle.fields.specs.Numbers.{Bytes, num}
+use Rattle.fields.specs.Digits.{le}
 use Rattle.fields.proofs.Numbers.{val-le}
 use Rattle.fields.proofs.Reading.{more, got, fits, blank}
 use Rattle.fields.proofs.Zeros.{zero-all}
@@ -16,7 +17,8 @@ use Rattle.headers.specs.Layout.{Lawful}
 use Rattle.headers.proofs.TypeList.{listed-exact}
 use Rattle.headers.proofs.Heads.{clear, passes}
 use Rattle.can.specs.declared.overload.Overload.{Overload}
-use Rattle.can.specs.Overload.{overload, overloadOf, overloadFault, ValidOverload, overloadLayout}
+use Rattle.can.specs.Overload.{overload, overloadFault, ValidOverload, overloadLayout}
+use Rattle.can.specs.Fields.{overloadOf}
 use Rattle.can.proofs.Bodies.{whole, one-size}
 
 pub overload-length : (r : Overload) → length (overload r) ≡ 4

@@ -5,7 +5,8 @@ use Prim.Native.Nat.{ℕ}
 use native.Mathlib.Nat.{le-of-eq}
 use lib.ListN.{length}
 use lib.Dec.{lit≤}
-use Rattle.fields.specs.Numbers.{Bytes, le, num}
+use Rattle.fields.specs.Numbers.{Bytes, num}
+use Rattle.fields.specs.Digits.{le}
 use Rattle.fields.proofs.Numbers.{val-le}
 use Rattle.fields.proofs.Reading.{more, got, fits}
 use Rattle.headers.specs.declared.header.Header.{Header}
@@ -15,7 +16,8 @@ use Rattle.headers.specs.Layout.{Lawful}
 use Rattle.headers.proofs.TypeList.{listed-exact}
 use Rattle.headers.proofs.Heads.{clear, passes}
 use Rattle.can.specs.declared.statistic.Statistic.{Statistic}
-use Rattle.can.specs.Statistic.{counters, statistic, statisticOf, statisticFault, ValidStatistic, statisticLayout}
+use Rattle.can.specs.Statistic.{counters, statistic, statisticFault, ValidStatistic, statisticLayout}
+use Rattle.can.specs.Fields.{statisticOf}
 use Rattle.can.proofs.Bodies.{whole, one-size}
 
 pub statistic-length : (r : Statistic) → length (statistic r) ≡ 28

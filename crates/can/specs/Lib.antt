@@ -1,3 +1,4 @@
+pub mod Fields
 pub mod Message
 pub mod Overload
 pub mod Statistic

@@ -4,13 +4,15 @@ use mathlib.Core.Path.{_≡_}
 use mathlib.Core.Bool.{true}
 use mathlib.Core.List.{List, _++_}
 use lib.ListN.{length, getD}
-use Rattle.fields.specs.Numbers.{le, num}
-use Rattle.fields.specs.Arrays.{array, nums}
+use Rattle.fields.specs.Digits.{le, array}
+use Rattle.fields.specs.Numbers.{num, nums}
 use Rattle.headers.specs.declared.header.Header.{Header}
 use Rattle.headers.specs.Header.{Fit}
-use Rattle.headers.specs.Tests.{first, unitOk}
+use Rattle.headers.specs.Tests.{first}
+use Rattle.headers.specs.Format.{unitOk}
 use Rattle.headers.specs.Layout.{Layout}
 use Rattle.can.specs.declared.message.Message.{Message}
+use Rattle.can.specs.Fields.{messageOf}
 
 unfoldable pub message : Message → List ℕ
 message r =
@@ -19,17 +21,6 @@ message r =
     ++ le 1 (r .dlc)  --  3
     ++ le 4 (r .id)  --  4
     ++ array 1 8 (r .bytes)  --  8
-
-unfoldable pub messageOf : Header → List ℕ → Message
-messageOf h b =
-    record {
-      header = h;
-      channel = num 2 b 0;
-      flags = num 1 b 2;
-      dlc = num 1 b 3;
-      id = num 4 b 4;
-      bytes = nums 1 8 b 8;
-    }
 
 -- 7 alone: no byte is reserved, and no value is refused
 unfoldable pub messageFault : Header → List ℕ → ℕ

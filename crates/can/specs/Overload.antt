@@ -3,20 +3,20 @@ use Prim.Native.Nat.{ℕ, _<_, _^_}
 use mathlib.Core.Path.{_≡_}
 use mathlib.Core.Bool.{true}
 use mathlib.Core.List.{List, _++_}
-use Rattle.fields.specs.Numbers.{part, le, num, zeros, allZero}
+use Rattle.fields.specs.Numbers.{part, num, zeros, allZero}
+use Rattle.fields.specs.Digits.{le}
 use Rattle.headers.specs.declared.header.Header.{Header}
 use Rattle.headers.specs.Header.{Fit}
-use Rattle.headers.specs.Tests.{first, unitOk}
+use Rattle.headers.specs.Tests.{first}
+use Rattle.headers.specs.Format.{unitOk}
 use Rattle.headers.specs.Layout.{Layout}
 use Rattle.can.specs.declared.overload.Overload.{Overload}
+use Rattle.can.specs.Fields.{overloadOf}
 
 unfoldable pub overload : Overload → List ℕ
 overload r =
     le 2 (r .channel)  --  0
     ++ zeros 2  --  2 reserved
-
-unfoldable pub overloadOf : Header → List ℕ → Overload
-overloadOf h b = record { header = h; channel = num 2 b 0 }
 
 unfoldable pub overloadFault : Header → List ℕ → ℕ
 overloadFault h b =

@@ -3,12 +3,15 @@ use Prim.Native.Nat.{ℕ, _<_, _^_}
 use mathlib.Core.Path.{_≡_}
 use mathlib.Core.Bool.{true}
 use mathlib.Core.List.{List, _++_}
-use Rattle.fields.specs.Numbers.{le, num}
+use Rattle.fields.specs.Digits.{le}
+use Rattle.fields.specs.Numbers.{num}
 use Rattle.headers.specs.declared.header.Header.{Header}
 use Rattle.headers.specs.Header.{Fit}
-use Rattle.headers.specs.Tests.{first, unitOk}
+use Rattle.headers.specs.Tests.{first}
+use Rattle.headers.specs.Format.{unitOk}
 use Rattle.headers.specs.Layout.{Layout}
 use Rattle.can.specs.declared.statistic.Statistic.{Statistic}
+use Rattle.can.specs.Fields.{statisticOf}
 
 -- the six counters of frames
 unfoldable pub counters : Statistic → List ℕ
@@ -25,20 +28,6 @@ statistic r =
     le 2 (r .channel)  --  0
     ++ le 2 (r .load)  --  2 in 1/100 percent
     ++ counters r  --  4
-
-unfoldable pub statisticOf : Header → List ℕ → Statistic
-statisticOf h b =
-    record {
-      header = h;
-      channel = num 2 b 0;
-      load = num 2 b 2;
-      «standard_data» = num 4 b 4;
-      «extended_data» = num 4 b 8;
-      «standard_remote» = num 4 b 12;
-      «extended_remote» = num 4 b 16;
-      errors = num 4 b 20;
-      overloads = num 4 b 24;
-    }
 
 -- 7 alone: no byte is reserved, and no value is refused
 unfoldable pub statisticFault : Header → List ℕ → ℕ

@@ -3,7 +3,8 @@ ghost use mathlib.Core.Path.{_≡_};
 ghost use Prim.Native.Nat.{_+_, _≤_};
 ghost use lib.ListN.{length};
 ghost use Rattle.fields.specs.Written.{Wrote};
-ghost use Rattle.can.specs.Message.{message, messageOf, messageFault};
+ghost use Rattle.can.specs.Message.{message, messageFault};
+ghost use Rattle.can.specs.Fields.{messageOf};
 
 pub struct Message {
     pub header: headers::Header,

@@ -3,7 +3,8 @@ ghost use mathlib.Core.Path.{_≡_};
 ghost use Prim.Native.Nat.{_+_, _≤_};
 ghost use lib.ListN.{length};
 ghost use Rattle.fields.specs.Written.{Wrote};
-ghost use Rattle.can.specs.Overload.{overload, overloadOf, overloadFault};
+ghost use Rattle.can.specs.Overload.{overload, overloadFault};
+ghost use Rattle.can.specs.Fields.{overloadOf};
 
 pub struct Overload {
     pub header: headers::Header,

@@ -3,7 +3,8 @@ ghost use mathlib.Core.Path.{_≡_};
 ghost use Prim.Native.Nat.{_+_, _≤_};
 ghost use lib.ListN.{length};
 ghost use Rattle.fields.specs.Written.{Wrote};
-ghost use Rattle.can.specs.Statistic.{counters, statistic, statisticOf, statisticFault};
+ghost use Rattle.can.specs.Statistic.{counters, statistic, statisticFault};
+ghost use Rattle.can.specs.Fields.{statisticOf};
 
 pub struct Statistic {
     pub header: headers::Header,

@@ -10,7 +10,7 @@ use Rattle.can.specs.declared.overload.Overload.{Overload}
 use Rattle.can.specs.declared.statistic.Statistic.{Statistic}
 use Rattle.objects.specs.Kinds.{message, overload, statistic}
 use Rattle.objects.specs.Items.{known}
-use Rattle.objects.proofs.Steps.{Stands}
+use Rattle.objects.proofs.Standing.{Stands}
 use Rattle.outcomes.specs.declared.Told.the-variants as told
 use Rattle.outcomes.specs.Reads.{lookAt, recordAt}
 use Rattle.outcomes.proofs.Reading.{read-exact}

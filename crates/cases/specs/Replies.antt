@@ -4,7 +4,8 @@ use mathlib.Core.Bool.{Bool, cond, _&&_}
 use mathlib.Core.List.{List, _++_}
 use lib.ListN.{length, drop}
 use lib.Dec.{eqb, leb}
-use Rattle.fields.specs.Numbers.{part, num, le}
+use Rattle.fields.specs.Numbers.{part, num}
+use Rattle.fields.specs.Digits.{le}
 use Rattle.objects.specs.declared.Step.{Step}
 use Rattle.objects.specs.declared.Answer.{Answer}
 use Rattle.objects.specs.declared.Answer.the-variants as answer

@@ -8,13 +8,13 @@ use Rattle.fields.specs.Numbers.{Bytes}
 use Rattle.fields.proofs.Reading.{got, fits}
 use Rattle.headers.specs.declared.header.Header.{Header}
 use Rattle.headers.specs.Header.{Fit}
-use Rattle.headers.specs.Types.{typeList, sizesIn, rowIn}
+use Rattle.headers.specs.Types.{typeList, sizesIn}
+use Rattle.headers.specs.Rows.{rowIn}
 use Rattle.headers.specs.Layout.{Sized, Lawful}
 use Rattle.headers.proofs.Heads.{clear, passes}
 use Rattle.ethernet.specs.declared.frame_error.FrameError.{FrameError}
-use Rattle.ethernet.specs.Event.{structureLength}
-use Rattle.ethernet.specs.Frame.{frameOf}
-use Rattle.ethernet.specs.FrameError.{error, errorOf, errorFault, ValidError, errorLayout}
+use Rattle.ethernet.specs.Fields.{structureLength, frameOf, errorOf}
+use Rattle.ethernet.specs.FrameError.{error, errorFault, ValidError, errorLayout}
 use Rattle.ethernet.proofs.EventLaws.{event-length, event-view, event-last, event-back, event-no-fault, event-forth, event-valid, Carries, bounds, within}
 
 -- what is written is read, and no fault refuses it

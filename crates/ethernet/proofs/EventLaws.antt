@@ -8,19 +8,22 @@ use native.Mathlib.Omega.{arith}
 use lib.Dec.{lit≤}
 use lib.ListN.{length, drop, length-drop, take-append-drop}
 use borrow.Author.Tests.{eqb-true, eq-eqb}
-use Rattle.fields.specs.Numbers.{Bytes, num, val, le}
+use Rattle.fields.specs.Numbers.{Bytes, num, val}
+use Rattle.fields.specs.Digits.{le}
 use Rattle.fields.proofs.Numbers.{val-le}
 use Rattle.fields.proofs.Reading.{Is, more, got, kept, fits}
 use Rattle.headers.specs.declared.header.Header.{Header}
-use Rattle.headers.specs.Header.{headerLength, Fit}
-use Rattle.headers.specs.Types.{Sizes, upTo, Has, typeList, sizesIn, rowOf, listed}
-use Rattle.headers.specs.Tests.{unitOk}
+use Rattle.headers.specs.Format.{headerLength, unitOk}
+use Rattle.headers.specs.Header.{Fit}
+use Rattle.headers.specs.Types.{Sizes, upTo, Has, typeList, sizesIn}
+use Rattle.headers.specs.Rows.{rowOf, listed}
 use Rattle.headers.specs.Layout.{Sized}
 use Rattle.headers.proofs.TypeList.{types-exact}
 use Rattle.headers.proofs.Heads.{clear, passes}
 use Rattle.ethernet.specs.declared.frame.Frame.{Frame}
-use Rattle.ethernet.specs.Event.{structureLength, longestFrame, origin, transmission, event, lengthFault}
-use Rattle.ethernet.specs.Frame.{frameOf, ValidFrame}
+use Rattle.ethernet.specs.Fields.{structureLength, longestFrame, frameOf}
+use Rattle.ethernet.specs.Event.{origin, transmission, event, lengthFault}
+use Rattle.ethernet.specs.Frame.{ValidFrame}
 
 -- what is written is read, and no fault refuses it
 module _ (r : Frame) (last : ℕ) (bytes : List ℕ) where

@@ -4,16 +4,19 @@ use mathlib.Core.Bool.{true}
 use mathlib.Core.List.{List}
 use Prim.Native.Nat.{ℕ, _+_}
 use lib.ListN.{length, drop}
-use Rattle.fields.specs.Numbers.{Bytes, part, le, allZero}
+use Rattle.fields.specs.Numbers.{Bytes, part, allZero}
+use Rattle.fields.specs.Digits.{le}
 use Rattle.fields.proofs.Reading.{blank}
 use Rattle.headers.specs.declared.header.Header.{Header}
 use Rattle.headers.specs.Header.{Fit}
-use Rattle.headers.specs.Types.{typeList, sizesIn, rowIn}
+use Rattle.headers.specs.Types.{typeList, sizesIn}
+use Rattle.headers.specs.Rows.{rowIn}
 use Rattle.headers.specs.Layout.{Sized, Lawful}
 use Rattle.headers.proofs.Heads.{clear, passes}
 use Rattle.ethernet.specs.declared.frame.Frame.{Frame}
-use Rattle.ethernet.specs.Event.{structureLength, origin, transmission, event}
-use Rattle.ethernet.specs.Frame.{frame, frameOf, frameFault, ValidFrame, frameLayout}
+use Rattle.ethernet.specs.Fields.{structureLength, frameOf}
+use Rattle.ethernet.specs.Event.{origin, transmission, event}
+use Rattle.ethernet.specs.Frame.{frame, frameFault, ValidFrame, frameLayout}
 use Rattle.ethernet.proofs.EventLaws.{event-length, event-view, event-back, event-no-fault, event-forth, event-valid, Carries, bounds, within}
 
 -- what is written is read, and no fault refuses it

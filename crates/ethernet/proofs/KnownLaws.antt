@@ -7,7 +7,7 @@ use denote.Laws.{Is}
 use denote.Struct.Declared as struct
 use denote.Struct.Laws.{val}
 use borrow.Author.Needs.{needs}
-use Rattle.headers.specs.Tests.{unitOk}
+use Rattle.headers.specs.Format.{unitOk}
 use Rattle.ethernet.specs.declared.status.Status.{Status}
 use Rattle.ethernet.specs.Status.{ValidStatus}
 use Rattle.ethernet.proofs.status.Status as status

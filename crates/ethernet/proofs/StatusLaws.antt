@@ -7,17 +7,21 @@ use native.Mathlib.Omega.{arith}
 use lib.Dec.{lit≤}
 use lib.ListN.{length}
 use lib.Seq.{take-all}
-use Rattle.fields.specs.Numbers.{Bytes, num, le}
+use Rattle.fields.specs.Numbers.{Bytes, num}
+use Rattle.fields.specs.Digits.{le}
 use Rattle.fields.proofs.Numbers.{val-le}
 use Rattle.fields.proofs.Reading.{more, got, fits}
 use Rattle.headers.specs.declared.header.Header.{Header}
-use Rattle.headers.specs.Header.{headerLength, Fit}
-use Rattle.headers.specs.Types.{typeList, sizesIn, rowIn}
+use Rattle.headers.specs.Format.{headerLength}
+use Rattle.headers.specs.Header.{Fit}
+use Rattle.headers.specs.Types.{typeList, sizesIn}
+use Rattle.headers.specs.Rows.{rowIn}
 use Rattle.headers.specs.Layout.{Sized, Lawful}
 use Rattle.headers.proofs.TypeList.{types-exact}
 use Rattle.headers.proofs.Heads.{clear, passes}
 use Rattle.ethernet.specs.declared.status.Status.{Status}
-use Rattle.ethernet.specs.Status.{status, statusOf, statusFault, ValidStatus, statusLayout}
+use Rattle.ethernet.specs.Status.{status, statusFault, ValidStatus, statusLayout}
+use Rattle.ethernet.specs.Fields.{statusOf}
 
 pub status-length : (r : Status) → length (status r) ≡ 16
 unfolding status le

@@ -4,16 +4,11 @@ use Prim.Native.Nat.{ℕ, _-_}
 use mathlib.Core.List.{List, _++_}
 use lib.Dec.{eqb}
 use lib.ListN.{length}
-use Rattle.fields.specs.Numbers.{num, le}
+use Rattle.fields.specs.Numbers.{num}
+use Rattle.fields.specs.Digits.{le}
 use Rattle.headers.specs.Tests.{first}
 use Rattle.ethernet.specs.declared.frame.Frame.{Frame}
-
--- the bytes between the header and the frame
-abbrev pub structureLength : ℕ
-structureLength = 32
-
-abbrev pub longestFrame : ℕ
-longestFrame = 1612
+use Rattle.ethernet.specs.Fields.{structureLength}
 
 -- the structure length, and where the frame was seen
 unfoldable pub origin : Frame → List ℕ
@@ -45,8 +40,3 @@ unfoldable pub lengthFault : List ℕ → ℕ
 lengthFault b =
     first 9 (eqb (num 2 b 0) structureLength)
     (first 9 (eqb (num 2 b 22) (length b - structureLength)) 0)
-
--- a record, and the frame's bytes that are lent beside it
-pub record Framed (A : Type 0) : Type 0 where
-  pub value : A
-  pub bytes : List ℕ

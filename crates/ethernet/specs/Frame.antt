@@ -8,26 +8,16 @@ use lib.ListN.{length, drop}
 use Rattle.fields.specs.Numbers.{num, part, zeros, allZero}
 use Rattle.headers.specs.declared.header.Header.{Header}
 use Rattle.headers.specs.Header.{Fit}
-use Rattle.headers.specs.Tests.{first, unitOk}
+use Rattle.headers.specs.Tests.{first}
+use Rattle.headers.specs.Format.{unitOk}
 use Rattle.headers.specs.Layout.{Layout}
 use Rattle.ethernet.specs.declared.frame.Frame.{Frame}
-use Rattle.ethernet.specs.Event.{structureLength, longestFrame, event, lengthFault, Framed}
+use Rattle.ethernet.specs.Fields.{frameIn, structureLength, longestFrame, Framed}
+use Rattle.ethernet.specs.Event.{event, lengthFault}
 
 -- the four bytes at 28 are reserved
 unfoldable pub frame : Frame → List ℕ → List ℕ
 frame r bytes = event r (zeros 4) bytes
-
-unfoldable pub frameOf : Header → List ℕ → Frame
-frameOf h b = record {
-  header = h;
-  flags = num 2 b 2;
-  channel = num 2 b 4;
-  hardware = num 2 b 6;
-  duration = num 8 b 8;
-  checksum = num 4 b 16;
-  direction = num 2 b 20;
-  handle = num 4 b 24;
-}
 
 -- 7, 8 and, of the two lengths, 9
 unfoldable pub frameFault : Header → List ℕ → ℕ
@@ -53,7 +43,7 @@ frameLayout k = record {
   kind = k;
   header = λ f. f .value .header;
   body = λ f. frame (f .value) (f .bytes);
-  of = λ h b. record { value = frameOf h b; bytes = drop structureLength b };
+  of = frameIn;
   fault = frameFault;
   Valid = λ f. ValidFrame (f .value) (f .bytes);
 }

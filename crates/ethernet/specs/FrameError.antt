@@ -3,20 +3,20 @@
 use Prim.Native.Nat.{ℕ, _<_, _^_}
 use mathlib.Core.List.{List}
 use lib.ListN.{drop}
-use Rattle.fields.specs.Numbers.{num, le}
+use Rattle.fields.specs.Numbers.{num}
+use Rattle.fields.specs.Digits.{le}
 use Rattle.headers.specs.declared.header.Header.{Header}
-use Rattle.headers.specs.Tests.{first, unitOk}
+use Rattle.headers.specs.Tests.{first}
+use Rattle.headers.specs.Format.{unitOk}
 use Rattle.headers.specs.Layout.{Layout}
 use Rattle.ethernet.specs.declared.frame_error.FrameError.{FrameError}
-use Rattle.ethernet.specs.Event.{structureLength, event, lengthFault, Framed}
-use Rattle.ethernet.specs.Frame.{frameOf, ValidFrame}
+use Rattle.ethernet.specs.Fields.{errorIn, structureLength, Framed, frameOf}
+use Rattle.ethernet.specs.Event.{event, lengthFault}
+use Rattle.ethernet.specs.Frame.{ValidFrame}
 
 -- the error code stands at 28
 unfoldable pub error : FrameError → List ℕ → List ℕ
 error e bytes = event (e .frame) (le 4 (e .code)) bytes
-
-unfoldable pub errorOf : Header → List ℕ → FrameError
-errorOf h b = record { frame = frameOf h b; code = num 4 b 28 }
 
 -- 7 and, of the two lengths, 9
 unfoldable pub errorFault : Header → List ℕ → ℕ
@@ -33,7 +33,7 @@ errorLayout k = record {
   kind = k;
   header = λ e. e .value .frame .header;
   body = λ e. error (e .value) (e .bytes);
-  of = λ h b. record { value = errorOf h b; bytes = drop structureLength b };
+  of = errorIn;
   fault = errorFault;
   Valid = λ e. ValidError (e .value) (e .bytes);
 }

@@ -1,3 +1,4 @@
+pub mod Fields
 pub mod Status
 pub mod Event
 pub mod Frame

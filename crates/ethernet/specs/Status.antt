@@ -3,12 +3,15 @@ use Prim.Native.Nat.{ℕ, _<_, _^_}
 use mathlib.Core.Path.{_≡_}
 use mathlib.Core.Bool.{true}
 use mathlib.Core.List.{List, _++_}
-use Rattle.fields.specs.Numbers.{num, le}
+use Rattle.fields.specs.Numbers.{num}
+use Rattle.fields.specs.Digits.{le}
 use Rattle.headers.specs.declared.header.Header.{Header}
 use Rattle.headers.specs.Header.{Fit}
-use Rattle.headers.specs.Tests.{first, unitOk}
+use Rattle.headers.specs.Tests.{first}
+use Rattle.headers.specs.Format.{unitOk}
 use Rattle.headers.specs.Layout.{Layout}
 use Rattle.ethernet.specs.declared.status.Status.{Status}
+use Rattle.ethernet.specs.Fields.{statusOf}
 
 unfoldable pub status : Status → List ℕ
 status r =
@@ -23,22 +26,6 @@ status r =
     ++ le 1 (r .pairs)  -- 10
     ++ le 1 (r .hardware)  -- 11
     ++ le 4 (r .bitrate)  -- 12
-
-unfoldable pub statusOf : Header → List ℕ → Status
-statusOf h b = record {
-  header = h;
-  channel = num 2 b 0;
-  flags = num 2 b 2;
-  link = num 1 b 4;
-  phy = num 1 b 5;
-  duplex = num 1 b 6;
-  mdi = num 1 b 7;
-  connector = num 1 b 8;
-  clock = num 1 b 9;
-  pairs = num 1 b 10;
-  hardware = num 1 b 11;
-  bitrate = num 4 b 12;
-}
 
 -- 7
 unfoldable pub statusFault : Header → List ℕ → ℕ

@@ -3,9 +3,10 @@ use crate::frame::Frame;
 ghost use mathlib.Core.Path.{_≡_};
 ghost use Prim.Native.Nat.{_+_, _≤_};
 ghost use lib.ListN.{length};
-ghost use Rattle.fields.specs.Numbers.{le};
+ghost use Rattle.fields.specs.Digits.{le};
 ghost use Rattle.fields.specs.Written.{Wrote};
-ghost use Rattle.ethernet.specs.Event.{structureLength, longestFrame, origin, transmission, event, lengthFault};
+ghost use Rattle.ethernet.specs.Fields.{structureLength, longestFrame};
+ghost use Rattle.ethernet.specs.Event.{origin, transmission, event, lengthFault};
 
 // What refuses the two lengths in a body: 9, or 0 for nothing.
 pub fn length_fault(b: &[u8]) -> u32

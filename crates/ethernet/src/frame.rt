@@ -5,8 +5,8 @@ ghost use mathlib.Core.Path.{_≡_};
 ghost use Prim.Native.Nat.{_+_, _≤_};
 ghost use lib.ListN.{length, drop};
 ghost use Rattle.fields.specs.Written.{Wrote};
-ghost use Rattle.ethernet.specs.Event.{structureLength, longestFrame};
-ghost use Rattle.ethernet.specs.Frame.{frame, frameOf, frameFault};
+ghost use Rattle.ethernet.specs.Fields.{structureLength, longestFrame, frameOf};
+ghost use Rattle.ethernet.specs.Frame.{frame, frameFault};
 
 // Structure length and frame length are not kept: they follow from the frame's bytes, which are lent beside the record.
 pub struct Frame {

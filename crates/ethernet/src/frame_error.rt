@@ -7,8 +7,8 @@ ghost use mathlib.Core.Path.{_≡_};
 ghost use Prim.Native.Nat.{_+_, _≤_};
 ghost use lib.ListN.{length};
 ghost use Rattle.fields.specs.Written.{Wrote};
-ghost use Rattle.ethernet.specs.Event.{structureLength, longestFrame};
-ghost use Rattle.ethernet.specs.FrameError.{error, errorOf, errorFault};
+ghost use Rattle.ethernet.specs.Fields.{structureLength, longestFrame, errorOf};
+ghost use Rattle.ethernet.specs.FrameError.{error, errorFault};
 
 // The frame's fields, and the error code where a frame has reserved bytes.
 pub struct FrameError {

@@ -3,7 +3,8 @@ ghost use mathlib.Core.Path.{_≡_};
 ghost use Prim.Native.Nat.{_+_, _≤_};
 ghost use lib.ListN.{length};
 ghost use Rattle.fields.specs.Written.{Wrote};
-ghost use Rattle.ethernet.specs.Status.{status, statusOf, statusFault};
+ghost use Rattle.ethernet.specs.Status.{status, statusFault};
+ghost use Rattle.ethernet.specs.Fields.{statusOf};
 
 pub struct Status {
     pub header: headers::Header,

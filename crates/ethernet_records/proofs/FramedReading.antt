@@ -6,16 +6,16 @@ use Prim.Native.Nat.{ℕ}
 use lib.ListN.{length}
 use lib.Seq.{take-at}
 use Rattle.fields.specs.Numbers.{Bytes}
-use Rattle.headers.specs.Header.{bodyOf}
+use Rattle.headers.specs.Format.{bodyOf}
 use Rattle.headers.proofs.Objects.{body-object}
 use Rattle.ethernet.specs.declared.frame.Frame.{Frame}
 use Rattle.ethernet.specs.declared.frame_error.FrameError.{FrameError}
-use Rattle.ethernet.specs.Event.{Framed}
+use Rattle.ethernet.specs.Fields.{Framed}
 use Rattle.objects.specs.Kinds.{Kind, Record, layoutOf, frame, forwardedFrame, error, forwardedError}
 use Rattle.objects.specs.Items.{known, bytesOf}
 use Rattle.objects.specs.Views.{objectAt, frameAt}
 use Rattle.objects.proofs.ItemLaws.{written}
-use Rattle.objects.proofs.Steps.{Stands, step-over}
+use Rattle.objects.proofs.Standing.{Stands, step-over}
 use Rattle.outcomes.specs.declared.Told.the-variants as told
 use Rattle.outcomes.specs.declared.Looked.{Looked}
 use Rattle.outcomes.specs.Reads.{lookAt, cutOf, recordIn, recordAt}

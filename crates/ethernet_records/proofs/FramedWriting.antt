@@ -9,18 +9,20 @@ use lib.Dec.{leb}
 use lib.ListN.{length}
 use borrow.Author.Tests.{leb-true, leb-false}
 use Rattle.fields.specs.Written.{Wrote}
-use Rattle.headers.specs.Header.{headerLength, header}
-use Rattle.headers.specs.Types.{Sizes, upTo, Has, rowOf, allowed}
-use Rattle.headers.specs.Tests.{headSize, first}
-use Rattle.headers.specs.Padding.{extent}
+use Rattle.headers.specs.Format.{headerLength, headSize, extent}
+use Rattle.headers.specs.Header.{header}
+use Rattle.headers.specs.Types.{Sizes, upTo, Has}
+use Rattle.headers.specs.Rows.{rowOf, allowed}
+use Rattle.headers.specs.Tests.{first}
 use Rattle.headers.proofs.TypeList.{types-exact, at-least}
-use Rattle.ethernet.specs.Event.{structureLength, longestFrame}
+use Rattle.ethernet.specs.Fields.{structureLength, longestFrame}
 use Rattle.ethernet.proofs.EventLaws.{Carries}
 use Rattle.objects.specs.Kinds.{Kind, Record, layoutOf}
 use Rattle.objects.specs.Items.{known}
 use Rattle.outcomes.specs.declared.Written.{Written}
 use Rattle.outcomes.specs.declared.Written.the-variants.{Refused}
-use Rattle.outcomes.specs.Writes.{refusalBy, contentOk, Outcome, Closed}
+use Rattle.outcomes.specs.Writes.{refusalBy, contentOk, Outcome}
+use Rattle.outcomes.specs.Closed.{Closed}
 use Rattle.outcomes.proofs.Writing.{refused, refusal-is, Taken, taken, closed}
 use Rattle.ethernet_records.specs.Framed.{frameSize}
 use Rattle.ethernet_records.proofs.Holding.{Holds}

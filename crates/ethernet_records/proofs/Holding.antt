@@ -4,8 +4,9 @@ use mathlib.Core.Bool.{true}
 use mathlib.Core.List.{List}
 use Prim.Native.Nat.{ℕ, _+_}
 use lib.ListN.{length, drop}
-use Rattle.headers.specs.Types.{typeList, sizesIn, rowIn}
-use Rattle.ethernet.specs.Event.{structureLength}
+use Rattle.headers.specs.Types.{typeList, sizesIn}
+use Rattle.headers.specs.Rows.{rowIn}
+use Rattle.ethernet.specs.Fields.{structureLength}
 use Rattle.ethernet.proofs.EventLaws.{Carries}
 use Rattle.ethernet.proofs.FrameLaws.{frame-length, frame-view}
 use Rattle.ethernet.proofs.ErrorLaws.{error-length, error-view}

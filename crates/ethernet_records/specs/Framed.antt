@@ -5,8 +5,8 @@ use mathlib.Core.Path.{_≡_}
 use mathlib.Core.Bool.{cond}
 use mathlib.Core.List.{List}
 use lib.Dec.{leb}
-use Rattle.headers.specs.Header.{headerLength}
-use Rattle.ethernet.specs.Event.{structureLength, longestFrame, Framed}
+use Rattle.headers.specs.Format.{headerLength}
+use Rattle.ethernet.specs.Fields.{structureLength, longestFrame, Framed}
 use Rattle.objects.specs.declared.Cursor.{Cursor}
 use Rattle.objects.specs.Kinds.{Kind, Record, layoutOf}
 use Rattle.objects.specs.Next.{nextAt}

@@ -9,8 +9,8 @@ use native.Mathlib.Numerals.{add-one}
 use native.Mathlib.Omega.{arith}
 use lib.ListN.{length, take, drop, getD, set, length-append, List·getD-append, drop-of-length-le}
 use lib.Seq.{ext-getD, getD-at, set-at, append-snoc, drop-cons, take-suc, take-all}
-use Rattle.fields.specs.Numbers.{Bytes, part, le, num}
-use Rattle.fields.specs.Arrays.{array, nums}
+use Rattle.fields.specs.Numbers.{Bytes, part, num, nums}
+use Rattle.fields.specs.Digits.{le, array}
 use Rattle.fields.specs.Written.{Wrote}
 use Rattle.fields.proofs.Numbers.{length-le, num-lt}
 use Rattle.fields.proofs.Reading.{Is, more, got, num-at}

@@ -7,7 +7,8 @@ use native.Mathlib.Omega.{arith}
 use lib.Arith.{mod-mul}
 use lib.ListN.{length, take, drop, length-reverse}
 use lib.Seq.{take-add, drop-drop}
-use Rattle.fields.specs.Numbers.{part, val, le, num, be, big}
+use Rattle.fields.specs.Numbers.{part, val, num, big}
+use Rattle.fields.specs.Digits.{le, be}
 use Rattle.fields.specs.Written.{Wrote}
 use Rattle.fields.proofs.Parts.{length-part}
 use Rattle.fields.proofs.Numbers.{length-le}

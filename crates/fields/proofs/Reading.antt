@@ -7,7 +7,8 @@ use native.Mathlib.Nat.{le-of-eq, add-zero}
 use native.Mathlib.Omega.{arith}
 use lib.ListN.{length, take, drop, length-drop}
 use lib.Seq.{take-all, take-add, drop-drop, drop-append-seam, take-append-le, drop-append-le, take-append-seam}
-use Rattle.fields.specs.Numbers.{Bytes, part, val, le, num, zeros, allZero}
+use Rattle.fields.specs.Numbers.{Bytes, part, val, num, zeros, allZero}
+use Rattle.fields.specs.Digits.{le}
 use Rattle.fields.proofs.Parts.{length-part}
 use Rattle.fields.proofs.Numbers.{length-le, num-lt, le-num, val-le}
 use Rattle.fields.proofs.Zeros.{all-zero}

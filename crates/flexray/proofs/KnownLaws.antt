@@ -11,9 +11,10 @@ use denote.Laws.{Is}
 use denote.Struct.Declared as struct
 use denote.Struct.Laws.{val}
 use borrow.Author.Needs.{needs}
-use Rattle.headers.specs.Tests.{unitOk}
+use Rattle.headers.specs.Format.{unitOk}
 use Rattle.flexray.specs.declared.receive.Receive.{Receive}
-use Rattle.flexray.specs.Receive.{ValidReceive, countsOk}
+use Rattle.flexray.specs.Receive.{ValidReceive}
+use Rattle.flexray.specs.Fields.{countsOk}
 use Rattle.flexray.proofs.receive.Receive as receive
 use Rattle.flexray.proofs.receive.Receive.Laws as receive-laws
 

@@ -8,20 +8,22 @@ use native.Mathlib.Omega.{arith}
 use lib.Dec.{T, leb, lit≤}
 use lib.ListN.{length, length-append}
 use lib.Seq.{take-all}
-use Rattle.fields.specs.Numbers.{Bytes, part, le, num, zeros, allZero}
-use Rattle.fields.specs.Arrays.{nums}
+use Rattle.fields.specs.Numbers.{Bytes, part, num, zeros, allZero, nums}
+use Rattle.fields.specs.Digits.{le}
 use Rattle.fields.proofs.Numbers.{val-le}
 use Rattle.fields.proofs.Reading.{Is, more, got, fits, blank}
 use Rattle.fields.proofs.Elements.{length-array, length-nums, array-nums, nums-fit, nums-array}
 use Rattle.headers.specs.declared.header.Header.{Header}
-use Rattle.headers.specs.Header.{headerLength, Fit}
+use Rattle.headers.specs.Format.{headerLength, unitOk}
+use Rattle.headers.specs.Header.{Fit}
 use Rattle.headers.specs.Types.{typeList, sizesIn}
-use Rattle.headers.specs.Tests.{first, unitOk}
+use Rattle.headers.specs.Tests.{first}
 use Rattle.headers.specs.Layout.{Sized, Lawful}
 use Rattle.headers.proofs.TypeList.{types-exact, listed-exact}
 use Rattle.headers.proofs.Heads.{clear, passes}
 use Rattle.flexray.specs.declared.receive.Receive.{Receive}
-use Rattle.flexray.specs.Receive.{origin, slot, controller, receive, receiveOf, countsOk, receiveFault, ValidReceive, receiveLayout}
+use Rattle.flexray.specs.Receive.{origin, slot, controller, receive, receiveFault, ValidReceive, receiveLayout}
+use Rattle.flexray.specs.Fields.{receiveOf, countsOk}
 
 -- what stands before the data
 module _ (r : Receive) where

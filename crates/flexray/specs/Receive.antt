@@ -5,13 +5,15 @@ use mathlib.Core.Bool.{Bool, true, _&&_}
 use mathlib.Core.List.{List, _++_}
 use lib.Dec.{leb}
 use lib.ListN.{length, getD}
-use Rattle.fields.specs.Numbers.{part, le, num, zeros, allZero}
-use Rattle.fields.specs.Arrays.{array, nums}
+use Rattle.fields.specs.Numbers.{part, num, zeros, allZero, nums}
+use Rattle.fields.specs.Digits.{le, array}
 use Rattle.headers.specs.declared.header.Header.{Header}
 use Rattle.headers.specs.Header.{Fit}
-use Rattle.headers.specs.Tests.{first, unitOk}
+use Rattle.headers.specs.Tests.{first}
+use Rattle.headers.specs.Format.{unitOk}
 use Rattle.headers.specs.Layout.{Layout}
 use Rattle.flexray.specs.declared.receive.Receive.{Receive}
+use Rattle.flexray.specs.Fields.{receiveOf, countsOk}
 
 -- the channel, and whom it is from
 unfoldable pub origin : Receive → List ℕ
@@ -49,33 +51,6 @@ receive r =
     ++ slot r  -- 16
     ++ controller r  -- 28
     ++ array 1 254 (r .bytes)  -- 44
-
-unfoldable pub receiveOf : Header → List ℕ → Receive
-receiveOf h b = record {
-  header = h;
-  channel = num 2 b 0;
-  version = num 2 b 2;
-  mask = num 2 b 4;
-  direction = num 1 b 6;
-  client = num 4 b 8;
-  cluster = num 4 b 12;
-  id = num 2 b 16;
-  crca = num 2 b 18;
-  crcb = num 2 b 20;
-  total = num 2 b 22;
-  stored = num 2 b 24;
-  cycle = num 1 b 26;
-  tag = num 4 b 28;
-  state = num 4 b 32;
-  flags = num 4 b 36;
-  bytes = nums 1 254 b 44;
-}
-
--- 9: the data count is above neither 254 nor the byte count
-unfoldable pub countsOk : ℕ → ℕ → Bool
-countsOk total stored =
-    leb stored 254
-    && leb stored total
 
 unfoldable pub receiveFault : Header → List ℕ → ℕ
 receiveFault h b =

@@ -3,7 +3,8 @@ ghost use mathlib.Core.Path.{_≡_};
 ghost use Prim.Native.Nat.{_+_, _≤_};
 ghost use lib.ListN.{length};
 ghost use Rattle.fields.specs.Written.{Wrote};
-ghost use Rattle.flexray.specs.Receive.{origin, slot, controller, receive, receiveOf, countsOk, receiveFault};
+ghost use Rattle.flexray.specs.Receive.{origin, slot, controller, receive, receiveFault};
+ghost use Rattle.flexray.specs.Fields.{receiveOf, countsOk};
 
 pub struct Receive {
     pub header: headers::Header,

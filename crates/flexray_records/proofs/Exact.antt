@@ -8,7 +8,7 @@ use Rattle.fields.specs.Numbers.{Bytes}
 use Rattle.flexray.specs.declared.receive.Receive.{Receive}
 use Rattle.objects.specs.Kinds.{receive}
 use Rattle.objects.specs.Items.{known}
-use Rattle.objects.proofs.Steps.{Stands}
+use Rattle.objects.proofs.Standing.{Stands}
 use Rattle.outcomes.specs.declared.Told.the-variants as told
 use Rattle.outcomes.specs.Reads.{lookAt, recordAt}
 use Rattle.outcomes.proofs.Reading.{read-exact}

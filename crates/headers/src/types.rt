@@ -1,6 +1,6 @@
 // The type list.
 ghost use mathlib.Core.Path.{_≡_};
-ghost use Rattle.headers.specs.Types.{rowOf, listed, allowed};
+ghost use Rattle.headers.specs.Rows.{rowOf, listed, allowed};
 
 // A type's number, and its allowed sizes: all from the least to the most, a second and a third. A foreign type has the
 // row of number 0.

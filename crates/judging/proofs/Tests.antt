@@ -9,8 +9,8 @@ use borrow.Author.Tests.{lt-ltb, le-ltb}
 use lib.ListN.{length, drop, length-drop}
 use lib.Seq.{drop-drop}
 use Rattle.fields.specs.Numbers.{big}
-use Rattle.slips.specs.Bundle.{Slip, slipLength, slipLimit}
-use Rattle.slips.specs.Cut.{entryIn, entriesIn, lengthIn, deskIn, slipIn, Cut, Slips, Fault, cutFrom, cutOf}
+use Rattle.slips.specs.Cut.{Slip, slipLimit, entryIn, entriesIn, lengthIn, deskIn, slipIn, Cut, Slips, Fault, cutFrom, cutOf}
+use Rattle.slips.specs.Bundle.{slipLength}
 use Rattle.slips.proofs.Format.SlipFaults.{Whole}
 use Rattle.slips.proofs.Format.Cuts.{behind, Next, next-slip, last-slip}
 use Rattle.judging.specs.Outside.{past, pastOn, outsideOf, Cuts}

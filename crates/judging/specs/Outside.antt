@@ -5,8 +5,7 @@ use mathlib.Core.Bool.{Bool, false, _||_}
 use mathlib.Core.List.{List, [], _∷_}
 use lib.Dec.{ltb}
 use Rattle.objects.specs.Named.{Entry}
-use Rattle.slips.specs.Bundle.{Slip}
-use Rattle.slips.specs.Cut.{Cut, Slips, Fault, cutOf}
+use Rattle.slips.specs.Cut.{Slip, Cut, Slips, Fault, cutOf}
 
 -- one of the entries ends past a log of that length
 abbrev pub past : ℕ → List Entry → Bool

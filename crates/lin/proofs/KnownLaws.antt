@@ -12,13 +12,14 @@ use denote.Struct.Declared as struct
 use denote.Struct.Laws.{val}
 use denote.Enum.Declared as enum
 use borrow.Author.Needs.{needs}
-use Rattle.headers.specs.Tests.{unitOk}
+use Rattle.headers.specs.Format.{unitOk}
 use Rattle.lin.specs.declared.wake_up.WakeUp.{WakeUp}
 use Rattle.lin.specs.declared.message.Message.{Message}
 use Rattle.lin.specs.declared.tail.Tail.{Tail}
 use Rattle.lin.specs.declared.tail.Tail.the-variants.{Nothing, Response, Rates}
 use Rattle.lin.specs.WakeUp.{ValidWakeUp}
-use Rattle.lin.specs.Tail.{tailOk, FitTail}
+use Rattle.lin.specs.Fields.{tailOk}
+use Rattle.lin.specs.Tail.{FitTail}
 use Rattle.lin.specs.Message.{ValidMessage}
 use Rattle.lin.proofs.wake_up.WakeUp as wake-up
 use Rattle.lin.proofs.wake_up.WakeUp.Laws as wake-up-laws

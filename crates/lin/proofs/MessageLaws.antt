@@ -6,22 +6,23 @@ use Prim.Native.Nat.{ℕ, _+_, _≤_, _<_, _^_}
 use native.Mathlib.Omega.{arith}
 use lib.ListN.{length, take, drop, take-append-drop}
 use lib.Dec.{lit≤}
-use Rattle.fields.specs.Numbers.{Bytes, num, le, part, allZero}
-use Rattle.fields.specs.Arrays.{array}
+use Rattle.fields.specs.Numbers.{Bytes, num, part, allZero}
+use Rattle.fields.specs.Digits.{le, array}
 use Rattle.fields.proofs.Parts.{drop-bytes}
 use Rattle.fields.proofs.Numbers.{val-le}
 use Rattle.fields.proofs.Reading.{Is, more, got, fits, blank}
 use Rattle.fields.proofs.Elements.{length-nums, array-nums, nums-fit, nums-array}
 use Rattle.headers.specs.declared.header.Header.{Header}
 use Rattle.headers.specs.Header.{Fit}
-use Rattle.headers.specs.Tests.{first, unitOk}
+use Rattle.headers.specs.Tests.{first}
+use Rattle.headers.specs.Format.{unitOk}
 use Rattle.headers.specs.Layout.{Sized, Lawful}
 use Rattle.headers.proofs.TypeList.{listed-exact}
 use Rattle.headers.proofs.Heads.{clear, passes}
 use Rattle.lin.specs.declared.message.Message.{Message}
 use Rattle.lin.specs.Bus.{bus}
-use Rattle.lin.specs.Tail.{tailOf, tailOk}
-use Rattle.lin.specs.Message.{synch, descriptor, status, machines, message, messageOf, messageFault, ValidMessage, messageLayout}
+use Rattle.lin.specs.Fields.{tailOf, tailOk, messageOf}
+use Rattle.lin.specs.Message.{synch, descriptor, status, machines, message, messageFault, ValidMessage, messageLayout}
 use Rattle.lin.proofs.BusLaws.{is-bus}
 use Rattle.lin.proofs.TailLaws.{tail-back, tail-forth, tail-fit}
 use Rattle.lin.proofs.SizeLaws.{message-sized, long, ends}

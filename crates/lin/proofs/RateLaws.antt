@@ -9,7 +9,7 @@ use lib.Ieee.{Float, nan, inf, fin, binary64, isNan, nanBits, toBits, ofBits, of
 use lib.Ieee.Bits.{nanBits-is, nanBits-above, ofBits-toBits}
 use lib.Ieee.Compare.{differs-from-itself}
 use borrow.Author.Tests.{lt-ltb, le-ltb, ltb-true, ltb-false, leb-true, leb-false, eq-eqb, ne-eqb}
-use Rattle.lin.specs.Tail.{rateOk}
+use Rattle.lin.specs.Fields.{rateOk}
 
 abbrev pub infinity : ℕ
 infinity = 0x7ff0_0000_0000_0000

@@ -6,10 +6,9 @@ use Prim.Native.Nat.{ℕ, _+_, _≤_}
 use native.Mathlib.Omega.{arith}
 use lib.ListN.{length, drop, length-drop}
 use lib.Ieee.{Float}
-use Rattle.fields.specs.Numbers.{le}
-use Rattle.fields.specs.Arrays.{array}
+use Rattle.fields.specs.Digits.{le, array}
 use Rattle.headers.specs.declared.header.Header.{Header}
-use Rattle.headers.specs.Header.{headerLength}
+use Rattle.headers.specs.Format.{headerLength}
 use Rattle.headers.specs.Types.{oneOf, Has, typeList, sizesIn}
 use Rattle.headers.specs.Layout.{Sized}
 use Rattle.headers.proofs.TypeList.{types-exact}
@@ -17,7 +16,8 @@ use Rattle.lin.specs.declared.message.Message.{Message}
 use Rattle.lin.specs.declared.tail.Tail.the-variants.{Rates}
 use Rattle.lin.specs.Bus.{bus}
 use Rattle.lin.specs.Tail.{tail, Decides}
-use Rattle.lin.specs.Message.{synch, descriptor, status, machines, message, messageOf}
+use Rattle.lin.specs.Message.{synch, descriptor, status, machines, message}
+use Rattle.lin.specs.Fields.{messageOf}
 use Rattle.lin.proofs.TailLaws.{sizeWith, Ends, tail-ends, same-length, decides}
 
 pub message-length : (r : Message) → length (message r) ≡ 132 + length (tail (r .tail))

@@ -13,14 +13,16 @@ use lib.ListN.{length}
 use lib.Seq.{take-all}
 use lib.Ieee.{Float, binary64, toBits, ofBits}
 use lib.Ieee.Bits.{toBits-lt, toBits-ofBits, ofBits-toBits, ofBits-fits, is-true}
-use Rattle.fields.specs.Numbers.{Bytes, le, num}
+use Rattle.fields.specs.Numbers.{Bytes, num}
+use Rattle.fields.specs.Digits.{le}
 use Rattle.fields.proofs.Numbers.{val-le}
 use Rattle.fields.proofs.Reading.{Is, more, got, kept, fits}
-use Rattle.headers.specs.Header.{headerLength}
+use Rattle.headers.specs.Format.{headerLength}
 use Rattle.headers.specs.Types.{oneOf, Has}
 use Rattle.lin.specs.declared.tail.Tail.{Tail}
 use Rattle.lin.specs.declared.tail.Tail.the-variants.{Nothing, Response, Rates}
-use Rattle.lin.specs.Tail.{rates, tail, tailOf, rateOk, tailOk, FitTail, Decides}
+use Rattle.lin.specs.Tail.{rates, tail, FitTail, Decides}
+use Rattle.lin.specs.Fields.{tailOf, rateOk, tailOk}
 use Rattle.lin.proofs.tail.Tail.{the-type}
 use Rattle.lin.proofs.RateLaws.{rate-number}
 

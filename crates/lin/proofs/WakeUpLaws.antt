@@ -7,11 +7,13 @@ use native.Mathlib.Omega.{arith}
 use lib.ListN.{length}
 use lib.Seq.{take-all}
 use lib.Dec.{lit≤}
-use Rattle.fields.specs.Numbers.{Bytes, num, le, allZero}
+use Rattle.fields.specs.Numbers.{Bytes, num, allZero}
+use Rattle.fields.specs.Digits.{le}
 use Rattle.fields.proofs.Numbers.{val-le}
 use Rattle.fields.proofs.Reading.{more, got, fits, blank}
 use Rattle.headers.specs.declared.header.Header.{Header}
-use Rattle.headers.specs.Header.{headerLength, Fit}
+use Rattle.headers.specs.Format.{headerLength}
+use Rattle.headers.specs.Header.{Fit}
 use Rattle.headers.specs.Types.{typeList, sizesIn}
 use Rattle.headers.specs.Tests.{first}
 use Rattle.headers.specs.Layout.{Sized, Lawful}
@@ -19,7 +21,8 @@ use Rattle.headers.proofs.TypeList.{types-exact, listed-exact}
 use Rattle.headers.proofs.Heads.{clear, passes}
 use Rattle.lin.specs.declared.wake_up.WakeUp.{WakeUp}
 use Rattle.lin.specs.Bus.{bus}
-use Rattle.lin.specs.WakeUp.{wakeUp, wakeUpOf, wakeUpFault, ValidWakeUp, wakeUpLayout}
+use Rattle.lin.specs.WakeUp.{wakeUp, wakeUpFault, ValidWakeUp, wakeUpLayout}
+use Rattle.lin.specs.Fields.{wakeUpOf}
 use Rattle.lin.proofs.BusLaws.{is-bus}
 
 pub wake-up-length : (r : WakeUp) → length (wakeUp r) ≡ 20

@@ -1,7 +1,8 @@
 -- 01, types 57 and 62: what both LIN records begin with, 16 bytes (001, 3.1.4). Offsets from the header's end.
 use Prim.Native.Nat.{ℕ}
 use mathlib.Core.List.{List, _++_}
-use Rattle.fields.specs.Numbers.{le, zeros}
+use Rattle.fields.specs.Digits.{le}
+use Rattle.fields.specs.Numbers.{zeros}
 
 unfoldable pub bus : ℕ → ℕ → ℕ → List ℕ
 bus start baud channel =

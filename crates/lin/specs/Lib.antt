@@ -1,3 +1,4 @@
+pub mod Fields
 pub mod Bus
 pub mod WakeUp
 pub mod Tail

@@ -4,15 +4,17 @@ use mathlib.Core.Path.{_≡_}
 use mathlib.Core.Bool.{true}
 use mathlib.Core.List.{List, _++_}
 use lib.ListN.{length, drop, getD}
-use Rattle.fields.specs.Numbers.{num, le, part, allZero, zeros}
-use Rattle.fields.specs.Arrays.{array, nums}
+use Rattle.fields.specs.Numbers.{num, part, allZero, zeros, nums}
+use Rattle.fields.specs.Digits.{le, array}
 use Rattle.headers.specs.declared.header.Header.{Header}
 use Rattle.headers.specs.Header.{Fit}
-use Rattle.headers.specs.Tests.{first, unitOk}
+use Rattle.headers.specs.Tests.{first}
+use Rattle.headers.specs.Format.{unitOk}
 use Rattle.headers.specs.Layout.{Layout}
 use Rattle.lin.specs.declared.message.Message.{Message}
+use Rattle.lin.specs.Fields.{messageOf, tailOf, tailOk}
 use Rattle.lin.specs.Bus.{bus}
-use Rattle.lin.specs.Tail.{tail, tailOf, tailOk, FitTail}
+use Rattle.lin.specs.Tail.{tail, FitTail}
 
 -- where and when, and the break before the frame (001, 3.1.5)
 unfoldable pub synch : Message → List ℕ
@@ -57,33 +59,6 @@ message r =
     ++ status r  -- 120
     ++ machines r  -- 127
     ++ tail (r .tail)  -- 132
-
-unfoldable pub messageOf : Header → List ℕ → Message
-messageOf h b = record {
-  header = h;
-  start = num 8 b 0;
-  baud = num 4 b 8;
-  channel = num 2 b 12;
-  breaking = num 8 b 16;
-  delimiter = num 8 b 24;
-  supplier = num 2 b 32;
-  message = num 2 b 34;
-  nad = num 1 b 36;
-  id = num 1 b 37;
-  dlc = num 1 b 38;
-  model = num 1 b 39;
-  stamps = nums 8 9 b 40;
-  bytes = nums 1 8 b 112;
-  checksum = num 2 b 120;
-  direction = num 1 b 122;
-  simulated = num 1 b 123;
-  triggered = num 1 b 124;
-  index = num 1 b 125;
-  associated = num 1 b 126;
-  machine = num 1 b 127;
-  state = num 1 b 128;
-  tail = tailOf (drop 132 b);
-}
 
 unfoldable pub messageFault : Header → List ℕ → ℕ
 messageFault h b =

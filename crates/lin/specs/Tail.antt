@@ -8,7 +8,8 @@ use mathlib.Core.List.{List, [], _++_}
 use lib.ListN.{length}
 use lib.Dec.{eqb}
 use lib.Ieee.{Float, nan, inf, fin, binary64, ofBits, toBits, fits}
-use Rattle.fields.specs.Numbers.{num, le}
+use Rattle.fields.specs.Numbers.{num}
+use Rattle.fields.specs.Digits.{le}
 use Rattle.lin.specs.declared.tail.Tail.{Tail}
 use Rattle.lin.specs.declared.tail.Tail.the-variants.{Nothing, Response, Rates}
 
@@ -23,24 +24,6 @@ unfoldable pub tail : Tail → List ℕ
 tail Nothing = []
 tail (Response response) = le 4 response
 tail (Rates response exact header-stop response-stop) = rates response exact header-stop response-stop
-
--- the tail that bytes are
-unfoldable pub tailOf : List ℕ → Tail
-tailOf t =
-    cond (eqb (length t) 4) (Response (num 4 t 0))
-    (cond (eqb (length t) 20) (Rates (num 4 t 0) (ofBits binary64 (num 8 t 4)) (num 4 t 12) (num 4 t 16))
-    Nothing)
-
--- 9: "The f64 must be finite with its sign bit clear"
-unfoldable pub rateOk : Float → Bool
-rateOk nan = false
-rateOk (inf sign) = false
-rateOk (fin sign m e) = not sign
-
-abbrev pub tailOk : Tail → Bool
-tailOk Nothing = true
-tailOk (Response response) = true
-tailOk (Rates response exact header-stop response-stop) = rateOk exact
 
 -- each number fits its width, and the float its format
 abbrev pub FitTail : Tail → Type 0

@@ -3,12 +3,15 @@ use Prim.Native.Nat.{ℕ, _<_, _^_}
 use mathlib.Core.Path.{_≡_}
 use mathlib.Core.Bool.{true}
 use mathlib.Core.List.{List, _++_}
-use Rattle.fields.specs.Numbers.{num, le, part, allZero, zeros}
+use Rattle.fields.specs.Numbers.{num, part, allZero, zeros}
+use Rattle.fields.specs.Digits.{le}
 use Rattle.headers.specs.declared.header.Header.{Header}
 use Rattle.headers.specs.Header.{Fit}
-use Rattle.headers.specs.Tests.{first, unitOk}
+use Rattle.headers.specs.Tests.{first}
+use Rattle.headers.specs.Format.{unitOk}
 use Rattle.headers.specs.Layout.{Layout}
 use Rattle.lin.specs.declared.wake_up.WakeUp.{WakeUp}
+use Rattle.lin.specs.Fields.{wakeUpOf}
 use Rattle.lin.specs.Bus.{bus}
 
 unfoldable pub wakeUp : WakeUp → List ℕ
@@ -18,17 +21,6 @@ wakeUp r =
     ++ le 1 (r .signal)  -- 17
     ++ le 1 (r .external)  -- 18
     ++ zeros 1  -- 19 reserved
-
-unfoldable pub wakeUpOf : Header → List ℕ → WakeUp
-wakeUpOf h b = record {
-  header = h;
-  start = num 8 b 0;
-  baud = num 4 b 8;
-  channel = num 2 b 12;
-  info = num 1 b 16;
-  signal = num 1 b 17;
-  external = num 1 b 18;
-}
 
 unfoldable pub wakeUpFault : Header → List ℕ → ℕ
 wakeUpFault h b =

@@ -9,8 +9,9 @@ ghost use mathlib.Core.Bool.{true};
 ghost use Prim.Native.Nat.{_+_, _≤_};
 ghost use lib.ListN.{length};
 ghost use Rattle.fields.specs.Written.{Wrote};
-ghost use Rattle.lin.specs.Tail.{tail, tailOk};
-ghost use Rattle.lin.specs.Message.{synch, descriptor, status, machines, message, messageOf, messageFault};
+ghost use Rattle.lin.specs.Tail.{tail};
+ghost use Rattle.lin.specs.Fields.{tailOk, messageOf};
+ghost use Rattle.lin.specs.Message.{synch, descriptor, status, machines, message, messageFault};
 
 pub struct Message {
     pub header: headers::Header,

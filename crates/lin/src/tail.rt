@@ -5,7 +5,8 @@ ghost use Prim.Native.Nat.{_+_, _≤_};
 ghost use lib.ListN.{length, drop};
 ghost use lib.Ieee.{binary64, ofBits};
 ghost use Rattle.fields.specs.Written.{Wrote};
-ghost use Rattle.lin.specs.Tail.{rates, tail, tailOf, rateOk, tailOk};
+ghost use Rattle.lin.specs.Tail.{rates, tail};
+ghost use Rattle.lin.specs.Fields.{tailOf, rateOk, tailOk};
 
 // Nothing; the response's baud rate; or that, the header's exact baud rate and the two stop-bit offsets.
 pub enum Tail {

@@ -4,7 +4,8 @@ ghost use mathlib.Core.Path.{_≡_};
 ghost use Prim.Native.Nat.{_+_, _≤_};
 ghost use lib.ListN.{length};
 ghost use Rattle.fields.specs.Written.{Wrote};
-ghost use Rattle.lin.specs.WakeUp.{wakeUp, wakeUpOf, wakeUpFault};
+ghost use Rattle.lin.specs.WakeUp.{wakeUp, wakeUpFault};
+ghost use Rattle.lin.specs.Fields.{wakeUpOf};
 
 pub struct WakeUp {
     pub header: headers::Header,

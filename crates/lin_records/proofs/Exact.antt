@@ -9,7 +9,7 @@ use Rattle.lin.specs.declared.message.Message.{Message}
 use Rattle.lin.specs.declared.wake_up.WakeUp.{WakeUp}
 use Rattle.objects.specs.Kinds.{linMessage, wakeUp}
 use Rattle.objects.specs.Items.{known}
-use Rattle.objects.proofs.Steps.{Stands}
+use Rattle.objects.proofs.Standing.{Stands}
 use Rattle.outcomes.specs.declared.Told.the-variants as told
 use Rattle.outcomes.specs.Reads.{lookAt, recordAt}
 use Rattle.outcomes.proofs.Reading.{read-exact}

@@ -1,7 +1,9 @@
 pub mod KindLaws
+pub mod Chain
 pub mod FaultLaws
 pub mod ItemLaws
 pub mod Steps
+pub mod Standing
 pub mod Rows
 pub mod Refusals
 pub mod Walks

@@ -1,7 +1,10 @@
 pub mod Kinds
-pub mod Items
-pub mod Next
 pub mod Table
-pub mod Views
+pub mod Next
 pub mod Walk
+pub mod Logs
 pub mod Named
+pub mod Views
+pub mod Given
+pub mod Faults
+pub mod Items

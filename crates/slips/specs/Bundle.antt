@@ -1,16 +1,13 @@
 -- 01, "Slips": "A bundle is zero to eight slips end to end, big-endian. A slip: u32 length of what follows that field, version
 -- byte 1, desk byte, then entries of three u32: object start, object size without padding, type. Entries rise strictly by start;
--- desk bytes rise strictly along the bundle."
+-- desk bytes rise strictly along the bundle." `bundle-exact` of proofs/Format/Cuts says that these are the slips that Cut finds.
 use Prim.Native.Nat.{ℕ, _+_, _*_, _<_, _≤_}
 use mathlib.Core.Path.{_≡_}
 use mathlib.Core.List.{List, [], _∷_, _++_}
 use lib.ListN.{length}
-use Rattle.fields.specs.Numbers.{be}
+use Rattle.fields.specs.Digits.{be}
 use Rattle.objects.specs.Named.{Entry, Rising}
-
-pub record Slip : Type 0 where
-  pub desk : ℕ
-  pub entries : List Entry
+use Rattle.slips.specs.Cut.{Slip, slipLimit}
 
 -- as bytes
 
@@ -56,9 +53,6 @@ pub record ByRule (least : ℕ) (s : Slip) : Type 0 where
 abbrev pub AllByRule : ℕ → List Slip → Type 0
 AllByRule least [] = Unit
 AllByRule least (s ∷ ss) = ByRule least s × AllByRule (s .desk + 1) ss
-
-abbrev pub slipLimit : ℕ
-slipLimit = 8
 
 -- b is the bundle of these slips
 pub record BundleOf (b : List ℕ) (ss : List Slip) : Type 0 where

@@ -16,7 +16,8 @@ use Rattle.slips.specs.declared.pass.Verdict.{Verdict}
 use Rattle.slips.specs.declared.pass.Verdict.the-variants.{Accepted, Refused}
 use Rattle.slips.specs.Cut.{Cut, Slips, Fault, cutOf}
 use Rattle.slips.specs.Right.{entriesOn}
-use Rattle.slips.specs.Trouble.{Trouble, None, Found, troubleOf}
+use Rattle.slips.specs.Trouble.{Trouble, None, Found}
+use Rattle.slips.specs.Soonest.{troubleOf}
 
 abbrev pub longest : ℕ
 longest = 4294967295

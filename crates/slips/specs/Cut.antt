@@ -8,7 +8,13 @@ use lib.Dec.{eqb, leb}
 use Rattle.fields.specs.Numbers.{big}
 use Rattle.headers.specs.Tests.{first}
 use Rattle.objects.specs.Named.{Entry}
-use Rattle.slips.specs.Bundle.{Slip, slipLimit}
+
+pub record Slip : Type 0 where
+  pub desk : ℕ
+  pub entries : List Entry
+
+abbrev pub slipLimit : ℕ
+slipLimit = 8
 
 -- what t begins with
 

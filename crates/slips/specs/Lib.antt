@@ -1,9 +1,10 @@
-pub mod Bundle
 pub mod Cut
 pub mod Right
 pub mod Trouble
-pub mod Check
 pub mod Claims
+pub mod Bundle
+pub mod Soonest
+pub mod Check
 pub mod Share
 pub mod Kinds
 pub mod Marked

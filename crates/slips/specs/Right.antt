@@ -6,7 +6,7 @@ use mathlib.Core.List.{List, [], _∷_}
 use mathlib.Core.Logic.{_⊎_}
 use lib.Dec.{eqb}
 use Rattle.objects.specs.Named.{Entry, In}
-use Rattle.slips.specs.Bundle.{Slip}
+use Rattle.slips.specs.Cut.{Slip}
 
 -- the entries, slip by slip
 abbrev pub entriesOn : List Slip → List (List Entry)

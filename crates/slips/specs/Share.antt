@@ -7,7 +7,7 @@ use mathlib.Core.Logic.{_⊎_}
 use lib.ListN.{length}
 use lib.Dec.{eqb}
 use Rattle.objects.specs.Named.{Entry, In}
-use Rattle.slips.specs.Bundle.{Slip, slipLimit}
+use Rattle.slips.specs.Cut.{Slip, slipLimit}
 
 -- the objects of desk d, where `who` says whose an object is
 abbrev pub picks : (Entry → ℕ) → ℕ → List Entry → List Entry

@@ -13,7 +13,8 @@ use Rattle.slips.specs.declared.pass.Verdict.{Verdict}
 use Rattle.slips.specs.declared.pass.Verdict.the-variants.{Accepted, Refused}
 use Rattle.slips.specs.Cut.{Cut, Slips, Fault, cutOf}
 use Rattle.slips.specs.Right.{entriesOn}
-use Rattle.slips.specs.Trouble.{Trouble, None, Found, soonest, soonestOn, stray, miscount, troubleOf}
+use Rattle.slips.specs.Trouble.{Trouble, None, Found}
+use Rattle.slips.specs.Soonest.{soonest, soonestOn, stray, miscount, troubleOf}
 use Rattle.slips.specs.Check.{answerOf, judgedOf}
 use Rattle.slips.specs.Marked.{entry, two, m11, m12, forty}
 

@@ -5,7 +5,8 @@ use Prim.Native.Nat.{ℕ, zero, suc, _+_, _/_, _^_, _≤_, _<_, zero-le, suc-le-
 use native.Mathlib.Omega.{arith}
 use lib.ListN.{length, drop, length-reverse}
 use lib.Seq.{take-at, drop-append-add, drop-drop}
-use Rattle.fields.specs.Numbers.{Bytes, part, le, be, big}
+use Rattle.fields.specs.Numbers.{Bytes, part, big}
+use Rattle.fields.specs.Digits.{le, be}
 use Rattle.fields.proofs.Parts.{length-part, part-bytes}
 use Rattle.fields.proofs.Numbers.{length-le, val-le, val-lt, le-val}
 use Rattle.fields.proofs.Reading.{Is}

@@ -11,8 +11,8 @@ use lib.Dec.{eqb}
 use Rattle.fields.specs.Numbers.{Bytes}
 use Rattle.fields.proofs.Parts.{drop-bytes}
 use Rattle.headers.specs.Tests.{first}
-use Rattle.slips.specs.Bundle.{Slip, slipBytes, bundleBytes, AllByRule, slipLimit, BundleOf}
-use Rattle.slips.specs.Cut.{lengthIn, deskIn, slipIn, faultOf, Cut, Slips, Fault, onto, orFault, cutFrom, cutOf}
+use Rattle.slips.specs.Cut.{Slip, slipLimit, lengthIn, deskIn, slipIn, faultOf, Cut, Slips, Fault, onto, orFault, cutFrom, cutOf}
+use Rattle.slips.specs.Bundle.{slipBytes, bundleBytes, AllByRule, BundleOf}
 use Rattle.slips.proofs.Format.SlipFaults.{Whole, no-fault, fault-none}
 use Rattle.slips.proofs.Format.SlipBytes.{slip-rule, slip-forth, desk-in, slip-back, slip-whole, slip-rest}
 

@@ -8,7 +8,8 @@ use borrow.Author.Tests.{le-leb, leb-true}
 use lib.ListN.{length, drop, length-append, length-drop, take-append-drop}
 use lib.Seq.{drop-drop, drop-at}
 use lib.Dec.{leb}
-use Rattle.fields.specs.Numbers.{Bytes, be}
+use Rattle.fields.specs.Numbers.{Bytes}
+use Rattle.fields.specs.Digits.{be}
 use Rattle.fields.proofs.Parts.{drop-bytes}
 use Rattle.fields.proofs.Reading.{more}
 use Rattle.fields.proofs.Zeros.{both-true}

@@ -5,10 +5,11 @@ use Prim.Native.Nat.{ℕ, _+_, _-_, _*_, _/_, _≤_}
 use native.Mathlib.Omega.{arith}
 use lib.ListN.{length, drop, getD, length-append, length-drop, take-append-drop}
 use lib.Seq.{drop-drop, drop-cons, drop-at, getD-at, getD-append-add, drop-append-add}
-use Rattle.fields.specs.Numbers.{Bytes, be}
+use Rattle.fields.specs.Numbers.{Bytes}
+use Rattle.fields.specs.Digits.{be}
 use Rattle.fields.proofs.Parts.{drop-bytes}
-use Rattle.slips.specs.Bundle.{Slip, entriesBytes, slipLength, slipBytes, ByRule}
-use Rattle.slips.specs.Cut.{lengthIn, deskIn, slipIn}
+use Rattle.slips.specs.Cut.{Slip, lengthIn, deskIn, slipIn}
+use Rattle.slips.specs.Bundle.{entriesBytes, slipLength, slipBytes, ByRule}
 use Rattle.slips.proofs.Format.BigEndian.{length-be, big-be, big-lt, be-big}
 use Rattle.slips.proofs.Format.EntryBytes.{length-entries, entries-many, entries-back, entries-forth, entries-fit, rises-rising, rising-rises}
 use Rattle.slips.proofs.Format.SlipFaults.{Whole}

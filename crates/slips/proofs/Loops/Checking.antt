@@ -13,10 +13,11 @@ use Rattle.objects.specs.Named.{Entry, Rising}
 use Rattle.objects.proofs.Naming.{walk-exact, entries-rise}
 use Rattle.slips.specs.declared.bundle.Bundle.{Bundle}
 use Rattle.slips.specs.declared.pass.Verdict.the-variants.{Refused}
-use Rattle.slips.specs.Bundle.{Slip, AllFit, AllByRule, slipLimit}
-use Rattle.slips.specs.Cut.{Cut, Slips, Fault, cutOf}
+use Rattle.slips.specs.Cut.{Slip, slipLimit, Cut, Slips, Fault, cutOf}
+use Rattle.slips.specs.Bundle.{AllFit, AllByRule}
 use Rattle.slips.specs.Right.{entriesOn, timesAll}
-use Rattle.slips.specs.Trouble.{Trouble, sooner, soonest, soonestOn, stray, miscount, troubleOf}
+use Rattle.slips.specs.Trouble.{Trouble}
+use Rattle.slips.specs.Soonest.{sooner, soonest, soonestOn, stray, miscount, troubleOf}
 use Rattle.slips.specs.Check.{longest, objectsOf, answerOf, checkOf}
 use Rattle.slips.specs.Inner.Places.{placesOf, nowhere, placed, AllPlaced, slipsAt}
 use Rattle.slips.specs.Inner.Merge.{mergeOf}
@@ -111,7 +112,7 @@ module _ (b : List ℕ) (r : Bundle) where
       module _ (s : List ℕ) (bs : Bytes s) (bb : Bytes b) where
         merged : (n : ℕ) → walkOf s ≡ walked.Count n → mergeOf (objectsOf s) (slipsAt b (r .places)) ≡ troubleOf (objectsOf s) (entriesOn slips)
         merged n e =
-            let i = walk-exact s bs n .0 e in
+            let i = walk-exact s n .0 e in
             let up : Rising (objectsOf s) = rw (log-entries bs (i .1)) (entries-rise (i .1)) in
             let rule = bundle-exact b slips bb .0 cut .rule in
             let m = slipLimit - length slips in

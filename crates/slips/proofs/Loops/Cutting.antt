@@ -9,8 +9,8 @@ use lib.ListN.{length, drop, set, replicate, length-append, length-drop, drop-of
 use lib.Seq.{append-snoc, set-at, drop-drop}
 use lib.Dec.{eqb}
 use Rattle.slips.specs.declared.bundle.Place.{Place}
-use Rattle.slips.specs.Bundle.{Slip, slipLength, slipLimit}
-use Rattle.slips.specs.Cut.{lengthIn, deskIn, slipIn, faultOf, Cut, Slips, Fault, onto, orFault, cutFrom, cutOf}
+use Rattle.slips.specs.Cut.{Slip, slipLimit, lengthIn, deskIn, slipIn, faultOf, Cut, Slips, Fault, onto, orFault, cutFrom, cutOf}
+use Rattle.slips.specs.Bundle.{slipLength}
 use Rattle.slips.specs.Inner.Places.{placesOf, nowhere, placed}
 use Rattle.slips.proofs.Format.SlipFaults.{Whole, no-fault}
 use Rattle.slips.proofs.Format.Cuts.{behind}

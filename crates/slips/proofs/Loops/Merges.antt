@@ -9,7 +9,8 @@ use borrow.Author.Tests.{lt-ltb, eqb-true, eqb-false}
 use lib.Dec.{eqb}
 use Rattle.objects.specs.Named.{Entry, In, Above, Rising}
 use Rattle.slips.specs.Right.{timesAll}
-use Rattle.slips.specs.Trouble.{StrayAt, TwiceAt, UnlistedAt, InTrouble, Trouble, None, Found, First, troubleOf}
+use Rattle.slips.specs.Trouble.{StrayAt, TwiceAt, UnlistedAt, InTrouble, Trouble, None, Found, First}
+use Rattle.slips.specs.Soonest.{troubleOf}
 use Rattle.slips.specs.Inner.Merge.{past, theEnd, mergeOf}
 use Rattle.slips.proofs.Trouble.Entries.{start-same, in-above}
 use Rattle.slips.proofs.Trouble.Least.{Before, before-le, one-least}

@@ -9,8 +9,8 @@ use lib.Seq.{drop-drop}
 use Rattle.objects.specs.Named.{Entry}
 use Rattle.slips.specs.declared.bundle.Place.{Place}
 use Rattle.slips.specs.declared.merge.Merged.{Merged}
-use Rattle.slips.specs.Bundle.{Slip, slipLength}
-use Rattle.slips.specs.Cut.{lengthIn, deskIn, slipIn, Slips, cutFrom}
+use Rattle.slips.specs.Cut.{Slip, lengthIn, deskIn, slipIn, Slips, cutFrom}
+use Rattle.slips.specs.Bundle.{slipLength}
 use Rattle.slips.specs.Right.{entriesOn, same}
 use Rattle.slips.specs.Inner.Places.{placesOf, nowhere, AllPlaced, slipAt, slipsAt}
 use Rattle.slips.specs.Inner.Merge.{headAt, movePlace, movedOf, hitsOf, lowOf, mergedOf}

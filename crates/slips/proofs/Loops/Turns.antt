@@ -10,7 +10,7 @@ use lib.Seq.{take-suc, drop-cons, append-snoc, take-all, getD-at, set-at, length
 use Rattle.slips.specs.declared.bundle.Place.{Place}
 use Rattle.slips.specs.declared.merge.Head.{Head}
 use Rattle.slips.specs.declared.merge.Head.the-variants.{Miss, Hit, Stray}
-use Rattle.slips.specs.Bundle.{slipLimit}
+use Rattle.slips.specs.Cut.{slipLimit}
 use Rattle.slips.specs.Inner.Places.{Placed, AllPlaced, nowhere}
 use Rattle.slips.specs.Inner.Merge.{past, movePlace, movedOf, hitOf, hitsOf, lower, lowOf}
 

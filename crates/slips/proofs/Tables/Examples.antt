@@ -15,7 +15,7 @@ use Rattle.objects.specs.Named.{Entry}
 use Rattle.slips.specs.declared.pass.Verdict.{Verdict}
 use Rattle.slips.specs.declared.pass.Verdict.the-variants.{Accepted, Refused}
 use Rattle.slips.specs.Cut.{shapeOk, faultOf, cutOf}
-use Rattle.slips.specs.Trouble.{troubleOf}
+use Rattle.slips.specs.Soonest.{troubleOf}
 use Rattle.slips.specs.Check.{longest, objectsOf, judgedOf, checkOf}
 use Rattle.slips.specs.Marked.{m11, m12, m14, forty, marked, answers, told}
 use Rattle.slips.specs.Wrong.{threefold, wrongs, AllDiffer}

@@ -5,19 +5,20 @@ use Prim.Native.Nat.{ℕ, _≤_}
 use native.Mathlib.Omega.{arith}
 use lib.ListN.{length}
 use Rattle.fields.specs.Numbers.{val, num, big, allZero}
-use Rattle.headers.specs.Header.{headerOf}
-use Rattle.headers.specs.Padding.{padding}
-use Rattle.headers.specs.Types.{typeList, rowIn, allowed}
-use Rattle.headers.specs.Tests.{first, headerFits, headFault, unitOk}
+use Rattle.headers.specs.Format.{headerOf, padding, unitOk}
+use Rattle.headers.specs.Types.{typeList}
+use Rattle.headers.specs.Rows.{rowIn, allowed}
+use Rattle.headers.specs.Tests.{first, headerFits, headFault}
 use Rattle.can.specs.Overload.{overloadFault}
 use Rattle.objects.specs.Kinds.{find}
 use Rattle.objects.specs.declared.Walked.the-variants.{Count}
-use Rattle.objects.specs.Next.{bodyFault, faultOf, answered, nextAt}
+use Rattle.objects.specs.Faults.{bodyFault}
+use Rattle.objects.specs.Next.{faultOf, answered, nextAt}
 use Rattle.objects.specs.Walk.{walkOf}
 use Rattle.slips.specs.declared.pass.Verdict.the-variants.{Accepted, Refused}
 use Rattle.slips.specs.Cut as cut
 use Rattle.slips.specs.Cut.{shapeOk, cutOf}
-use Rattle.slips.specs.Trouble.{troubleOf}
+use Rattle.slips.specs.Soonest.{troubleOf}
 use Rattle.slips.specs.Check.{longest, objectsOf, checkOf}
 use Rattle.slips.specs.Marked.{two, m11, m12, m14}
 use Rattle.slips.proofs.Tables.Examples.{shown}

@@ -9,12 +9,13 @@ use native.Mathlib.Omega.{arith}
 use lib.ListN.{length}
 use lib.Dec.{eqb}
 use Rattle.fields.specs.Numbers.{Bytes}
-use Rattle.objects.specs.Items.{Item, LogOf}
+use Rattle.objects.specs.Items.{Item}
+use Rattle.objects.specs.Logs.{LogOf}
 use Rattle.objects.specs.Named.{Entry, In, Rising, entriesOf}
 use Rattle.objects.proofs.Naming.{entries-rise, within, one-log}
 use Rattle.slips.specs.declared.pass.Verdict.the-variants.{Accepted}
-use Rattle.slips.specs.Bundle.{Slip, BundleOf}
-use Rattle.slips.specs.Cut.{Slips}
+use Rattle.slips.specs.Cut.{Slip, Slips}
+use Rattle.slips.specs.Bundle.{BundleOf}
 use Rattle.slips.specs.Right.{entriesOn, On, same, times, timesAll, Right}
 use Rattle.slips.specs.Check.{checkOf}
 use Rattle.slips.specs.Kinds.{kinds, kindsAll}
@@ -89,12 +90,12 @@ module _ (t : ℕ) where
   right-kinds : (os : List Entry) → Rising os → (ss : List (List Entry)) → Right os ss → kindsAll t ss ≡ kinds t os
   right-kinds os r ss w = all-kinds os r ss (w .named) ∙ weigh-one os (λ o. timesAll o ss) (w .once)
 
-module _ (s b : List ℕ) (bs : Bytes s) (bb : Bytes b) (n : ℕ) (q : checkOf s b ≡ Accepted n) (is : List Item) (log : LogOf s is) (ss : List Slip) (bundle : BundleOf b ss) where
+module _ (s b : List ℕ) (bs : Bytes s) (bb : Bytes b) (n : ℕ) (q : checkOf s b ≡ Accepted n) (is : List (List ℕ)) (log : LogOf s is) (ss : List Slip) (bundle : BundleOf b ss) where
   -- the objects and the slips are those that the check has seen
   accepted-right : Right (entriesOf 0 is) (entriesOn ss)
   accepted-right =
       let h = check-exact s b bs bb n .0 q in
-      let i : h .formed .items ≡ is = one-log (h .formed .log) log in
+      let i : h .formed .objects ≡ is = one-log (h .formed .log) log in
       let c : Slips (h .formed .slips) ≡ Slips ss = sym (bundle-exact b (h .formed .slips) bb .1 (h .formed .bundle)) ∙ bundle-exact b ss bb .1 bundle in
       let j : h .formed .slips ≡ ss = cc in
       rw (i, j) at (h .right)

@@ -5,12 +5,15 @@ use mathlib.Core.Logic.{inl, inr}
 use Prim.Native.Nat.{ℕ, suc, _+_, _≤_}
 use native.Mathlib.Omega.{arith}
 use lib.ListN.{length}
-use Rattle.fields.specs.Numbers.{Bytes, be}
-use Rattle.objects.specs.Items.{Item, padded, LogOf}
+use Rattle.fields.specs.Numbers.{Bytes}
+use Rattle.fields.specs.Digits.{be}
+use Rattle.headers.specs.Format.{padded}
+use Rattle.objects.specs.Logs.{LogOf}
 use Rattle.objects.specs.Named.{Entry, In, Rising, entriesOf}
 use Rattle.objects.proofs.Naming.{entries-rise, entries-fit, room}
 use Rattle.slips.specs.declared.pass.Verdict.the-variants.{Accepted}
-use Rattle.slips.specs.Bundle.{Slip, entryBytes, entriesBytes, slipLength, slipBytes, bundleBytes, Fits, AllFit, AllByRule}
+use Rattle.slips.specs.Cut.{Slip}
+use Rattle.slips.specs.Bundle.{entryBytes, entriesBytes, slipLength, slipBytes, bundleBytes, Fits, AllFit, AllByRule}
 use Rattle.slips.specs.Check.{longest, checkOf}
 use Rattle.slips.specs.Claims.{Honest}
 use Rattle.slips.specs.Share.{share, Sharing}
@@ -41,16 +44,16 @@ all-fit : (es : List Entry) → ((e : Entry) → In e es → Fits e) → AllFit 
 all-fit [] f = tt
 all-fit (e ∷ es) f = (f e (inl refl), all-fit es (λ x i. f x (inr i)))
 
-entries-length : (at : ℕ) (is : List Item) → length (entriesOf at is) ≡ length is
+entries-length : (at : ℕ) (is : List (List ℕ)) → length (entriesOf at is) ≡ length is
 entries-length at [] = refl
 entries-length at (i ∷ is) = ap suc (entries-length (at + length (padded i)) is)
 
 -- the bundle is bytes, and accepted with as many objects as the log has
-pub record Passes (s : List ℕ) (is : List Item) (b : List ℕ) : Type 0 where
+pub record Passes (s : List ℕ) (is : List (List ℕ)) (b : List ℕ) : Type 0 where
   pub bytes : Bytes b
   pub accepted : checkOf s b ≡ Accepted (length is)
 
-pub honest-passes : (s : List ℕ) (is : List Item) → Bytes s → length s ≤ longest → LogOf s is
+pub honest-passes : (s : List ℕ) (is : List (List ℕ)) → Bytes s → length s ≤ longest → LogOf s is
     → (who : Entry → ℕ) (ds : List ℕ) → Sharing who ds (entriesOf 0 is) → Passes s is (bundleBytes (share who ds (entriesOf 0 is)))
 honest-passes s is bs short log who ds w =
     let os : List Entry = entriesOf 0 is in
@@ -62,7 +65,7 @@ honest-passes s is bs short log who ds w =
     let honest : Honest s (bundleBytes ss) (length is) =
     record {
       formed =
-          record { short = short; items = is; log = log; slips = ss; bundle = record { bytes = refl; few = rw (share-length who os ds) (w .few); rule = rule } };
+          record { short = short; objects = is; log = log; slips = ss; bundle = record { bytes = refl; few = rw (share-length who os ds) (w .few); rule = rule } };
       many = refl;
       right =
           record {

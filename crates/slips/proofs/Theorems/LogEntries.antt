@@ -8,7 +8,8 @@ use Rattle.fields.specs.Numbers.{Bytes}
 use Rattle.objects.specs.declared.Answer.{Answer}
 use Rattle.objects.specs.declared.Answer.the-variants.{Object, Done, Refused}
 use Rattle.objects.specs.Next.{nextAt}
-use Rattle.objects.specs.Items.{Item, LogOf}
+use Rattle.objects.specs.Items.{Item}
+use Rattle.objects.specs.Logs.{LogOf}
 use Rattle.objects.specs.Named.{Entry, Objects, entriesOf}
 use Rattle.objects.proofs.Naming.{walking-less, log-objects}
 use Rattle.slips.specs.Check.{objectsOn, objectsFrom, objectsOf}
@@ -45,6 +46,6 @@ module _ (s : List ℕ) where
   objects-are [] at g = objects-done at g
   objects-are (o ∷ os) at g = objects-next at o (g .0) ∙ ap (λ (l : List Entry). o ∷ l) (objects-are os (nextAt s at .next .at) (g .1))
 
-pub log-entries : {s : List ℕ} {is : List Item} → Bytes s → LogOf s is → objectsOf s ≡ entriesOf 0 is
+pub log-entries : {s : List ℕ} {is : List (List ℕ)} → Bytes s → LogOf s is → objectsOf s ≡ entriesOf 0 is
 unfolding objectsOf
-log-entries {s} {is} b w = objects-are s (entriesOf 0 is) 0 (log-objects b w)
+log-entries {s} {is} b w = objects-are s (entriesOf 0 is) 0 (log-objects w)

@@ -14,10 +14,10 @@ use Rattle.objects.specs.Named.{entriesOf}
 use Rattle.objects.proofs.Naming.{walk-exact}
 use Rattle.slips.specs.declared.pass.Verdict.{Verdict}
 use Rattle.slips.specs.declared.pass.Verdict.the-variants.{Refused}
-use Rattle.slips.specs.Bundle.{Slip, BundleOf}
-use Rattle.slips.specs.Cut.{Cut, Slips, Fault, cutOf}
+use Rattle.slips.specs.Cut.{Slip, Cut, Slips, Fault, cutOf}
+use Rattle.slips.specs.Bundle.{BundleOf}
 use Rattle.slips.specs.Right.{entriesOn}
-use Rattle.slips.specs.Trouble.{troubleOf}
+use Rattle.slips.specs.Soonest.{troubleOf}
 use Rattle.slips.specs.Check.{longest, answerOf, checkOf}
 use Rattle.slips.specs.Claims.{Formed, LogRefused}
 use Rattle.slips.proofs.Format.Cuts.{bundle-exact}
@@ -35,7 +35,7 @@ abbrev pub toldOf : {s b : List ℕ} → Told s b → Verdict
 toldOf (long l) = Refused 28 0
 toldOf (bundle l k p e) = Refused k p
 toldOf (log k p w) = Refused k p
-toldOf (slips f) = answerOf (walked.Count (length (f .items))) (troubleOf (entriesOf 0 (f .items)) (entriesOn (f .slips)))
+toldOf (slips f) = answerOf (walked.Count (length (f .objects))) (troubleOf (entriesOf 0 (f .objects)) (entriesOn (f .slips)))
 
 module _ (s b : List ℕ) (bs : Bytes s) (bb : Bytes b) where
   pub check-slips : (f : Formed s b) → checkOf s b ≡ toldOf (slips f)
@@ -44,7 +44,7 @@ module _ (s b : List ℕ) (bs : Bytes s) (bb : Bytes b) where
       rw (
         le-ltb longest (length s) (f .short),
         bundle-exact b (f .slips) bb .1 (f .bundle),
-        walk-exact s bs (length (f .items)) .1 (f .items, f .log, refl),
+        walk-exact s (length (f .objects)) .1 (f .objects, f .log, refl),
         log-entries bs (f .log),
       )
 
@@ -69,8 +69,8 @@ module _ (s b : List ℕ) (bs : Bytes s) (bb : Bytes b) where
   told-walk : length s ≤ longest → (ss : List Slip) → BundleOf b ss → (w : Walked) → walkOf s ≡ w → Told s b
   told-walk l ss h (walked.Refused k p) e = log k p (record { short = l; slips = ss; bundle = h; walk = e })
   told-walk l ss h (walked.Count n) e =
-      let i = walk-exact s bs n .0 e in
-      slips (record { short = l; items = i .0; log = i .1; slips = ss; bundle = h })
+      let i = walk-exact s n .0 e in
+      slips (record { short = l; objects = i .0; log = i .1; slips = ss; bundle = h })
 
   told-cut : length s ≤ longest → (c : Cut) → cutOf b ≡ c → Told s b
   told-cut l (Slips ss) e = told-walk l ss (bundle-exact b ss bb .0 e) (walkOf s) refl

@@ -13,7 +13,8 @@ use Rattle.objects.proofs.Naming.{small}
 use Rattle.slips.specs.declared.pass.Verdict.the-variants.{Accepted, Refused}
 use Rattle.slips.specs.Cut.{Fault, cutOf}
 use Rattle.slips.specs.Right.{entriesOn}
-use Rattle.slips.specs.Trouble.{InTrouble, Trouble, None, Found, First, troubleOf}
+use Rattle.slips.specs.Trouble.{InTrouble, Trouble, None, Found, First}
+use Rattle.slips.specs.Soonest.{troubleOf}
 use Rattle.slips.specs.Check.{longest, answerOf, checkOf}
 use Rattle.slips.specs.Claims.{Formed, LogRefused, Honest, Troubled}
 use Rattle.slips.proofs.Format.Cuts.{fault-number}
@@ -45,14 +46,14 @@ trouble-number os ss k x = ⊎-elim (λ t. omega (arith, t .0)) (⊎-elim (λ t.
 
 module _ (s b : List ℕ) (bs : Bytes s) (bb : Bytes b) where
   -- a refusal of formed slips is their first trouble
-  formed-first : (f : Formed s b) (k x : ℕ) → toldOf (slips f) ≡ Refused k x → First (entriesOf 0 (f .items)) (entriesOn (f .slips)) (Found k x)
+  formed-first : (f : Formed s b) (k x : ℕ) → toldOf (slips f) ≡ Refused k x → First (entriesOf 0 (f .objects)) (entriesOn (f .slips)) (Found k x)
   formed-first f k x q =
-      let os = entriesOf 0 (f .items) in
+      let os = entriesOf 0 (f .objects) in
       let ss = entriesOn (f .slips) in
-      subst (First os ss) (refused-found (length (f .items)) k x (troubleOf os ss) q) (trouble-first os ss)
+      subst (First os ss) (refused-found (length (f .objects)) k x (troubleOf os ss) q) (trouble-first os ss)
 
   formed-number : (f : Formed s b) (k x : ℕ) → toldOf (slips f) ≡ Refused k x → (25 ≤ k) × (k ≤ 27)
-  formed-number f k x q = trouble-number (entriesOf 0 (f .items)) (entriesOn (f .slips)) k x (formed-first f k x q .0)
+  formed-number f k x q = trouble-number (entriesOf 0 (f .objects)) (entriesOn (f .slips)) k x (formed-first f k x q .0)
 
   -- accepted
 
@@ -61,7 +62,7 @@ module _ (s b : List ℕ) (bs : Bytes s) (bb : Bytes b) where
   accepted-honest n (bundle l k p e) q = absurd (differ q)
   accepted-honest n (log k p w) q = absurd (differ q)
   accepted-honest n (slips f) q =
-      let a = accepted-none (length (f .items)) n _ q in
+      let a = accepted-none (length (f .objects)) n _ q in
       record { formed = f; many = a .1; right = trouble-exact _ _ .0 (a .0) }
 
   pub check-exact : (n : ℕ) → (checkOf s b ≡ Accepted n) ↔ Honest s b n
@@ -82,7 +83,7 @@ module _ (s b : List ℕ) (bs : Bytes s) (bb : Bytes b) where
   first-trouble k x = (
     (λ q. refused-troubled k x (q .0) (q .1) (told s b bs bb) (answer s b bs bb (q .2))),
     (λ h.
-        let os = entriesOf 0 (h .formed .items) in
+        let os = entriesOf 0 (h .formed .objects) in
         let ss = entriesOn (h .formed .slips) in
         let n = trouble-number os ss k x (h .first .0) in
         let e = one-least (InTrouble os ss) (troubleOf os ss) (Found k x) (trouble-first os ss) (h .first) in

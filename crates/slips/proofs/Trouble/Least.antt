@@ -6,7 +6,8 @@ use Prim.Native.Nat.{ℕ, _<_, _≤_}
 use native.Mathlib.Omega.{arith}
 use borrow.Author.Tests.{eqb-true, eqb-false, ltb-true, ltb-false, leb-true, leb-false}
 use lib.Dec.{eqb, leb, ltb}
-use Rattle.slips.specs.Trouble.{Trouble, None, Found, Least, sooner}
+use Rattle.slips.specs.Trouble.{Trouble, None, Found, Least}
+use Rattle.slips.specs.Soonest.{sooner}
 
 -- number k at start x comes before j at y, or is it
 abbrev pub Before : ℕ → ℕ → ℕ → ℕ → Type 0

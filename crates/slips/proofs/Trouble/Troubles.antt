@@ -9,7 +9,8 @@ use borrow.Author.Tests.{eqb-true, eqb-false, ltb-true, ltb-false}
 use lib.Dec.{eqb, ltb}
 use Rattle.objects.specs.Named.{Entry, In}
 use Rattle.slips.specs.Right.{On, times, timesAll, Right}
-use Rattle.slips.specs.Trouble.{InTrouble, Trouble, None, Found, Least, First, sooner, soonest, soonestOn, stray, miscount, troubleOf}
+use Rattle.slips.specs.Trouble.{InTrouble, Trouble, None, Found, Least, First}
+use Rattle.slips.specs.Soonest.{sooner, soonest, soonestOn, stray, miscount, troubleOf}
 use Rattle.slips.proofs.Trouble.Entries.{times-none, times-some}
 use Rattle.slips.proofs.Trouble.Least.{least-sooner, least-same, one-least}
 

@@ -6,8 +6,8 @@ use lib.ListN.{length, drop, replicate}
 use Rattle.objects.specs.Named.{Entry}
 use Rattle.slips.specs.declared.bundle.Place.{Place}
 use Rattle.slips.specs.declared.bundle.Bundle.{Bundle}
-use Rattle.slips.specs.Bundle.{Slip, slipLength, slipLimit}
-use Rattle.slips.specs.Cut.{entriesIn, Cut, Slips, Fault}
+use Rattle.slips.specs.Cut.{Slip, slipLimit, entriesIn, Cut, Slips, Fault}
+use Rattle.slips.specs.Bundle.{slipLength}
 
 -- the places of slips that stand end to end from a place on: behind length, version and desk come the entries
 abbrev pub placesOf : ℕ → List Slip → List Place

@@ -1,7 +1,7 @@
 -- `can::put_message` meets its contract: one field behind the other. Assumes nothing.
 use mathlib.Core.Path.{refl}
 use borrow.Author.Needs.{needs}
-use Rattle.fields.specs.Numbers.{le}
+use Rattle.fields.specs.Digits.{le}
 use Rattle.fields.proofs.Writing.{then}
 use Rattle.can.specs.Message.{message}
 use Rattle.can.proofs.message.put_message.Statement.{statement}

@@ -1,7 +1,7 @@
 -- `can::put_overload` meets its contract: one field behind the other. Assumes nothing.
 use mathlib.Core.Path.{refl}
 use borrow.Author.Needs.{needs}
-use Rattle.fields.specs.Numbers.{le}
+use Rattle.fields.specs.Digits.{le}
 use Rattle.fields.proofs.Writing.{then}
 use Rattle.can.specs.Overload.{overload}
 use Rattle.can.proofs.overload.put_overload.Statement.{statement}

@@ -1,7 +1,7 @@
 -- `can::put_counters` meets its contract: one field behind the other. Assumes nothing.
 use mathlib.Core.Path.{refl}
 use borrow.Author.Needs.{needs}
-use Rattle.fields.specs.Numbers.{le}
+use Rattle.fields.specs.Digits.{le}
 use Rattle.fields.proofs.Writing.{then}
 use Rattle.can.specs.Statistic.{counters}
 use Rattle.can.proofs.statistic.put_counters.Statement.{statement}

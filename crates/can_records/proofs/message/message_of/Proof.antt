@@ -3,7 +3,7 @@ use mathlib.Core.Path.{ap₂, _∙_}
 use native.Mathlib.Omega.{arith}
 use borrow.Author.Needs.{needs}
 use lib.ListN.{length-drop}
-use Rattle.can.specs.Message.{messageOf}
+use Rattle.can.specs.Fields.{messageOf}
 use Rattle.can_records.proofs.message.message_of.Statement.{statement}
 use Rattle.can_records.proofs.message.message_of.Tie as tie
 

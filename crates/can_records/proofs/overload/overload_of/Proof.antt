@@ -3,7 +3,7 @@ use mathlib.Core.Path.{ap₂, _∙_}
 use native.Mathlib.Omega.{arith}
 use borrow.Author.Needs.{needs}
 use lib.ListN.{length-drop}
-use Rattle.can.specs.Overload.{overloadOf}
+use Rattle.can.specs.Fields.{overloadOf}
 use Rattle.can_records.proofs.overload.overload_of.Statement.{statement}
 use Rattle.can_records.proofs.overload.overload_of.Tie as tie
 

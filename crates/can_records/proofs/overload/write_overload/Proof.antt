@@ -4,9 +4,10 @@ use Prim.Native.Nat.{ℕ, _+_}
 use native.Mathlib.Omega.{arith}
 use borrow.Author.Needs.{needs}
 use lib.ListN.{length}
-use Rattle.fields.specs.Numbers.{le}
+use Rattle.fields.specs.Digits.{le}
 use Rattle.fields.proofs.Writing.{then}
-use Rattle.headers.specs.Header.{headerLength, head, header}
+use Rattle.headers.specs.Format.{headerLength}
+use Rattle.headers.specs.Header.{head, header}
 use Rattle.can.proofs.KnownLaws.{overload-known}
 use Rattle.can.proofs.OverloadLaws.{overload-length}
 use Rattle.objects.specs.Kinds.{overload}

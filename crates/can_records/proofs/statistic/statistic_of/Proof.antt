@@ -3,7 +3,7 @@ use mathlib.Core.Path.{ap₂, _∙_}
 use native.Mathlib.Omega.{arith}
 use borrow.Author.Needs.{needs}
 use lib.ListN.{length-drop}
-use Rattle.can.specs.Statistic.{statisticOf}
+use Rattle.can.specs.Fields.{statisticOf}
 use Rattle.can_records.proofs.statistic.statistic_of.Statement.{statement}
 use Rattle.can_records.proofs.statistic.statistic_of.Tie as tie
 

@@ -1,6 +1,6 @@
 -- `compare::put_reply` meets its contract: one number behind the other. Assumes nothing.
 use mathlib.Core.Path.{refl}
-use Rattle.fields.specs.Numbers.{le}
+use Rattle.fields.specs.Digits.{le}
 use Rattle.fields.proofs.Writing.{then}
 use borrow.Author.Needs.{needs}
 use Rattle.compare.proofs.stream.put_reply.Statement.{statement}

@@ -1,7 +1,7 @@
 -- `ethernet::put_origin` meets its contract: one field behind the other. Assumes nothing.
 use mathlib.Core.Path.{refl}
 use borrow.Author.Needs.{needs}
-use Rattle.fields.specs.Numbers.{le}
+use Rattle.fields.specs.Digits.{le}
 use Rattle.fields.proofs.Writing.{then}
 use Rattle.ethernet.specs.Event.{origin}
 use Rattle.ethernet.proofs.event.put_origin.Statement.{statement}

@@ -1,7 +1,7 @@
 -- `ethernet::put_transmission` meets its contract: one field behind the other. Assumes nothing.
 use mathlib.Core.Path.{refl}
 use borrow.Author.Needs.{needs}
-use Rattle.fields.specs.Numbers.{le}
+use Rattle.fields.specs.Digits.{le}
 use Rattle.fields.proofs.Writing.{then}
 use Rattle.ethernet.specs.Event.{transmission}
 use Rattle.ethernet.proofs.event.put_transmission.Statement.{statement}

@@ -1,7 +1,7 @@
 -- `ethernet::frame_view` meets its contract: it is what stands behind the structure length. Assumes nothing.
 use borrow.Author.Needs.{needs}
 use Rattle.fields.proofs.Parts.{tail}
-use Rattle.ethernet.specs.Event.{structureLength}
+use Rattle.ethernet.specs.Fields.{structureLength}
 use Rattle.ethernet.proofs.frame.frame_view.Statement.{statement}
 use Rattle.ethernet.proofs.frame.frame_view.Tie as tie
 

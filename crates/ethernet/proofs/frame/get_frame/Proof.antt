@@ -1,6 +1,6 @@
 -- `ethernet::get_frame` meets its contract: field by field. Assumes nothing.
 use borrow.Author.Needs.{needs}
-use Rattle.ethernet.specs.Frame.{frameOf}
+use Rattle.ethernet.specs.Fields.{frameOf}
 use Rattle.ethernet.proofs.frame.get_frame.Statement.{statement}
 use Rattle.ethernet.proofs.frame.get_frame.Tie as tie
 

@@ -1,6 +1,6 @@
 -- `ethernet::put_frame` meets its contract: the event with zeros at 28. Assumes nothing.
 use borrow.Author.Needs.{needs}
-use Rattle.fields.specs.Numbers.{le}
+use Rattle.fields.specs.Digits.{le}
 use Rattle.ethernet.specs.Frame.{frame}
 use Rattle.ethernet.proofs.frame.put_frame.Statement.{statement}
 use Rattle.ethernet.proofs.frame.put_frame.Tie as tie

@@ -1,6 +1,6 @@
 -- `ethernet::get_error` meets its contract: a frame and its code. Assumes nothing.
 use borrow.Author.Needs.{needs}
-use Rattle.ethernet.specs.FrameError.{errorOf}
+use Rattle.ethernet.specs.Fields.{errorOf}
 use Rattle.ethernet.proofs.frame_error.get_error.Statement.{statement}
 use Rattle.ethernet.proofs.frame_error.get_error.Tie as tie
 

@@ -1,6 +1,6 @@
 -- `ethernet::get_status` meets its contract: field by field. Assumes nothing.
 use borrow.Author.Needs.{needs}
-use Rattle.ethernet.specs.Status.{statusOf}
+use Rattle.ethernet.specs.Fields.{statusOf}
 use Rattle.ethernet.proofs.status.get_status.Statement.{statement}
 use Rattle.ethernet.proofs.status.get_status.Tie as tie
 

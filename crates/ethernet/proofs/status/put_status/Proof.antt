@@ -1,8 +1,7 @@
 -- `ethernet::put_status` meets its contract: one field behind the other, the eight bytes as an array. Assumes nothing.
 use mathlib.Core.Path.{refl}
 use borrow.Author.Needs.{needs}
-use Rattle.fields.specs.Numbers.{le}
-use Rattle.fields.specs.Arrays.{array}
+use Rattle.fields.specs.Digits.{le, array}
 use Rattle.fields.proofs.Writing.{then}
 use Rattle.ethernet.specs.Status.{status}
 use Rattle.ethernet.proofs.status.put_status.Statement.{statement}

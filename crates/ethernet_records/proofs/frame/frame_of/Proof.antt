@@ -3,7 +3,7 @@ use mathlib.Core.Path.{ap₂, _∙_}
 use native.Mathlib.Omega.{arith}
 use borrow.Author.Needs.{needs}
 use lib.ListN.{length-drop}
-use Rattle.ethernet.specs.Frame.{frameOf}
+use Rattle.ethernet.specs.Fields.{frameOf}
 use Rattle.ethernet_records.proofs.frame.frame_of.Statement.{statement}
 use Rattle.ethernet_records.proofs.frame.frame_of.Tie as tie
 

@@ -3,7 +3,7 @@ use mathlib.Core.Path.{ap₂, _∙_}
 use native.Mathlib.Omega.{arith}
 use borrow.Author.Needs.{needs}
 use lib.ListN.{length-drop}
-use Rattle.ethernet.specs.FrameError.{errorOf}
+use Rattle.ethernet.specs.Fields.{errorOf}
 use Rattle.ethernet_records.proofs.frame_error.error_of.Statement.{statement}
 use Rattle.ethernet_records.proofs.frame_error.error_of.Tie as tie
 

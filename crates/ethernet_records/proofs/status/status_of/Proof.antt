@@ -3,7 +3,7 @@ use mathlib.Core.Path.{ap₂, _∙_}
 use native.Mathlib.Omega.{arith}
 use borrow.Author.Needs.{needs}
 use lib.ListN.{length-drop}
-use Rattle.ethernet.specs.Status.{statusOf}
+use Rattle.ethernet.specs.Fields.{statusOf}
 use Rattle.ethernet_records.proofs.status.status_of.Statement.{statement}
 use Rattle.ethernet_records.proofs.status.status_of.Tie as tie
 

@@ -6,7 +6,7 @@ use native.Mathlib.Nat.{le-refl}
 use native.Mathlib.Omega.{arith}
 use borrow.Author.Needs.{needs}
 use lib.ListN.{length, drop}
-use Rattle.fields.specs.Arrays.{nums}
+use Rattle.fields.specs.Numbers.{nums}
 use Rattle.fields.proofs.Elements.{next-read, all-read}
 use Rattle.fields.proofs.arrays.get64x9.Statement.{statement}
 use Rattle.fields.proofs.arrays.get64x9.Tie as tie

@@ -6,7 +6,7 @@ use native.Mathlib.Nat.{one-mul, le-refl}
 use native.Mathlib.Omega.{arith}
 use borrow.Author.Needs.{needs}
 use lib.ListN.{length, drop}
-use Rattle.fields.specs.Arrays.{nums}
+use Rattle.fields.specs.Numbers.{nums}
 use Rattle.fields.proofs.Elements.{next-read, all-read}
 use Rattle.fields.proofs.arrays.get_bytes.Statement.{statement}
 use Rattle.fields.proofs.arrays.get_bytes.Tie as tie

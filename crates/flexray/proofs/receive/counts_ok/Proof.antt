@@ -1,6 +1,6 @@
 -- `flexray::counts_ok` meets its contract. Assumes nothing.
 use borrow.Author.Tests.{le-leb, lt-leb}
-use Rattle.flexray.specs.Receive.{countsOk}
+use Rattle.flexray.specs.Fields.{countsOk}
 use Rattle.flexray.proofs.receive.counts_ok.Statement.{statement}
 use Rattle.flexray.proofs.receive.counts_ok.Tie as tie
 

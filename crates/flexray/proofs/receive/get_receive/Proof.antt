@@ -1,6 +1,6 @@
 -- `flexray::get_receive` meets its contract, field by field. Assumes nothing.
 use borrow.Author.Needs.{needs}
-use Rattle.flexray.specs.Receive.{receiveOf}
+use Rattle.flexray.specs.Fields.{receiveOf}
 use Rattle.flexray.proofs.receive.get_receive.Statement.{statement}
 use Rattle.flexray.proofs.receive.get_receive.Tie as tie
 

@@ -1,7 +1,7 @@
 -- `flexray::put_origin` meets its contract: one field behind the other. Assumes nothing.
 use mathlib.Core.Path.{refl}
 use borrow.Author.Needs.{needs}
-use Rattle.fields.specs.Numbers.{le}
+use Rattle.fields.specs.Digits.{le}
 use Rattle.fields.proofs.Writing.{then}
 use Rattle.flexray.specs.Receive.{origin}
 use Rattle.flexray.proofs.receive.put_origin.Statement.{statement}

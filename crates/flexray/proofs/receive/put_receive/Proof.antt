@@ -1,7 +1,7 @@
 -- `flexray::put_receive` meets its contract: one part behind the other. Assumes nothing.
 use mathlib.Core.Path.{refl}
 use borrow.Author.Needs.{needs}
-use Rattle.fields.specs.Numbers.{le}
+use Rattle.fields.specs.Digits.{le}
 use Rattle.fields.proofs.Writing.{then}
 use Rattle.flexray.specs.Receive.{origin, slot, controller, receive}
 use Rattle.flexray.proofs.receive.put_receive.Statement.{statement}

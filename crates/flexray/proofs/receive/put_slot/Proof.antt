@@ -1,7 +1,7 @@
 -- `flexray::put_slot` meets its contract: one field behind the other. Assumes nothing.
 use native.Mathlib.Nat.{add-assoc}
 use borrow.Author.Needs.{needs}
-use Rattle.fields.specs.Numbers.{le}
+use Rattle.fields.specs.Digits.{le}
 use Rattle.fields.proofs.Writing.{then}
 use Rattle.flexray.specs.Receive.{slot}
 use Rattle.flexray.proofs.receive.put_slot.Statement.{statement}

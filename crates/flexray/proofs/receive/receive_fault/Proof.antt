@@ -3,7 +3,8 @@ use mathlib.Core.Path.{_≡_, refl, ap₂, _∙_}
 use borrow.Author.Needs.{needs}
 use Rattle.fields.specs.Numbers.{num}
 use Rattle.headers.specs.Tests.{first}
-use Rattle.flexray.specs.Receive.{countsOk, receiveFault}
+use Rattle.flexray.specs.Fields.{countsOk}
+use Rattle.flexray.specs.Receive.{receiveFault}
 use Rattle.flexray.proofs.receive.receive_fault.Statement.{statement}
 use Rattle.flexray.proofs.receive.receive_fault.Tie as tie
 

@@ -3,7 +3,7 @@ use mathlib.Core.Path.{ap₂, _∙_}
 use native.Mathlib.Omega.{arith}
 use borrow.Author.Needs.{needs}
 use lib.ListN.{length-drop}
-use Rattle.flexray.specs.Receive.{receiveOf}
+use Rattle.flexray.specs.Fields.{receiveOf}
 use Rattle.flexray_records.proofs.receive.receive_of.Statement.{statement}
 use Rattle.flexray_records.proofs.receive.receive_of.Tie as tie
 

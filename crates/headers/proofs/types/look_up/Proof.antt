@@ -4,7 +4,8 @@ use Prim.Native.Nat.{ℕ, _-_, _≤_}
 use native.Mathlib.Omega.{arith}
 use borrow.Author.Needs.{needs}
 use lib.ListN.{drop}
-use Rattle.headers.specs.Types.{typeList, rowIn, rowOf}
+use Rattle.headers.specs.Types.{typeList}
+use Rattle.headers.specs.Rows.{rowIn, rowOf}
 use Rattle.headers.proofs.TypeList.{here, on}
 use Rattle.headers.proofs.types.look_up.Statement.{statement}
 use Rattle.headers.proofs.types.look_up.Tie as tie

@@ -1,7 +1,7 @@
 -- `lin::get_message` meets its contract, field by field. Assumes nothing.
 use native.Mathlib.Omega.{arith}
 use borrow.Author.Needs.{needs}
-use Rattle.lin.specs.Message.{messageOf}
+use Rattle.lin.specs.Fields.{messageOf}
 use Rattle.lin.proofs.message.get_message.Statement.{statement}
 use Rattle.lin.proofs.message.get_message.Tie as tie
 

@@ -2,7 +2,7 @@
 use mathlib.Core.Path.{refl, ap, ap₂, _∙_}
 use borrow.Author.Needs.{needs}
 use Rattle.headers.specs.Tests.{first}
-use Rattle.lin.specs.Tail.{tailOk}
+use Rattle.lin.specs.Fields.{tailOk}
 use Rattle.lin.specs.Message.{messageFault}
 use Rattle.lin.proofs.message.message_fault.Statement.{statement}
 use Rattle.lin.proofs.message.message_fault.Tie as tie

@@ -1,9 +1,8 @@
 -- `lin::put_message` meets its contract: one part behind the other. Assumes nothing.
 use mathlib.Core.Path.{refl}
 use borrow.Author.Needs.{needs}
-use Rattle.fields.specs.Numbers.{le}
+use Rattle.fields.specs.Digits.{le, array}
 use Rattle.fields.proofs.Writing.{then}
-use Rattle.fields.specs.Arrays.{array}
 use Rattle.lin.specs.Bus.{bus}
 use Rattle.lin.specs.Message.{synch, descriptor, status, machines, message}
 use Rattle.lin.proofs.message.put_message.Statement.{statement}

@@ -1,7 +1,7 @@
 -- `lin::put_synch` meets its contract: one field behind the other. Assumes nothing.
 use mathlib.Core.Path.{refl}
 use borrow.Author.Needs.{needs}
-use Rattle.fields.specs.Numbers.{le}
+use Rattle.fields.specs.Digits.{le}
 use Rattle.fields.proofs.Writing.{then}
 use Rattle.lin.specs.Bus.{bus}
 use Rattle.lin.specs.Message.{synch}

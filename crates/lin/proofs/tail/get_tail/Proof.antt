@@ -2,7 +2,7 @@
 use mathlib.Core.Path.{ap, _∙_}
 use borrow.Author.Needs.{needs}
 use Rattle.fields.proofs.Parts.{tail}
-use Rattle.lin.specs.Tail.{tailOf}
+use Rattle.lin.specs.Fields.{tailOf}
 use Rattle.lin.proofs.tail.get_tail.Statement.{statement}
 use Rattle.lin.proofs.tail.get_tail.Tie as tie
 

@@ -4,7 +4,7 @@ use lib.Ieee.{binary64, ofBits}
 use borrow.Author.Needs.{needs}
 use borrow.Author.Tests.{ne-eqb}
 use Rattle.lin.specs.declared.tail.Tail.the-variants.{Response, Rates}
-use Rattle.lin.specs.Tail.{tailOf}
+use Rattle.lin.specs.Fields.{tailOf}
 use Rattle.lin.proofs.tail.tail_of.Statement.{statement}
 use Rattle.lin.proofs.tail.tail_of.Tie as tie
 

@@ -1,6 +1,6 @@
 -- `lin::get_wake_up` meets its contract: field by field. Assumes nothing.
 use borrow.Author.Needs.{needs}
-use Rattle.lin.specs.WakeUp.{wakeUpOf}
+use Rattle.lin.specs.Fields.{wakeUpOf}
 use Rattle.lin.proofs.wake_up.get_wake_up.Statement.{statement}
 use Rattle.lin.proofs.wake_up.get_wake_up.Tie as tie
 

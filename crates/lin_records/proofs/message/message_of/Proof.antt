@@ -3,7 +3,7 @@ use mathlib.Core.Path.{ap₂, _∙_}
 use native.Mathlib.Omega.{arith}
 use borrow.Author.Needs.{needs}
 use lib.ListN.{length-drop}
-use Rattle.lin.specs.Message.{messageOf}
+use Rattle.lin.specs.Fields.{messageOf}
 use Rattle.lin_records.proofs.message.message_of.Statement.{statement}
 use Rattle.lin_records.proofs.message.message_of.Tie as tie
 

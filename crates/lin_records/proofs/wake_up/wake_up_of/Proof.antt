@@ -3,7 +3,7 @@ use mathlib.Core.Path.{ap₂, _∙_}
 use native.Mathlib.Omega.{arith}
 use borrow.Author.Needs.{needs}
 use lib.ListN.{length-drop}
-use Rattle.lin.specs.WakeUp.{wakeUpOf}
+use Rattle.lin.specs.Fields.{wakeUpOf}
 use Rattle.lin_records.proofs.wake_up.wake_up_of.Statement.{statement}
 use Rattle.lin_records.proofs.wake_up.wake_up_of.Tie as tie
 

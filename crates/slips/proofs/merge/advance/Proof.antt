@@ -6,7 +6,7 @@ use Prim.Native.Nat.{_-_}
 use native.Mathlib.Omega.{arith}
 use borrow.Author.Needs.{needs}
 use lib.ListN.{length, getD}
-use Rattle.slips.specs.Bundle.{slipLimit}
+use Rattle.slips.specs.Cut.{slipLimit}
 use Rattle.slips.specs.Inner.Places.{Placed, nowhere}
 use Rattle.slips.specs.Inner.Merge.{headAt, mergedOf}
 use Rattle.slips.proofs.Loops.Turns.{placed-at, Turning, turning-none, turn-miss, turn-hit, turn-stray, turned-all, still}
