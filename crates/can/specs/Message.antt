@@ -5,7 +5,6 @@ use mathlib.Core.Bool.{true}
 use mathlib.Core.List.{List, _++_}
 use lib.ListN.{length, getD}
 use Rattle.fields.specs.Digits.{le, array}
-use Rattle.fields.specs.Numbers.{num, nums}
 use Rattle.headers.specs.declared.header.Header.{Header}
 use Rattle.headers.specs.Header.{Fit}
 use Rattle.headers.specs.Tests.{first}

@@ -3,7 +3,7 @@ use Prim.Native.Nat.{ℕ, _<_, _^_}
 use mathlib.Core.Path.{_≡_}
 use mathlib.Core.Bool.{true}
 use mathlib.Core.List.{List, _++_}
-use Rattle.fields.specs.Numbers.{part, num, zeros, allZero}
+use Rattle.fields.specs.Numbers.{part, zeros, allZero}
 use Rattle.fields.specs.Digits.{le}
 use Rattle.headers.specs.declared.header.Header.{Header}
 use Rattle.headers.specs.Header.{Fit}

@@ -4,7 +4,6 @@ use mathlib.Core.Path.{_≡_}
 use mathlib.Core.Bool.{true}
 use mathlib.Core.List.{List, _++_}
 use Rattle.fields.specs.Digits.{le}
-use Rattle.fields.specs.Numbers.{num}
 use Rattle.headers.specs.declared.header.Header.{Header}
 use Rattle.headers.specs.Header.{Fit}
 use Rattle.headers.specs.Tests.{first}

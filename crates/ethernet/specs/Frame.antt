@@ -4,15 +4,15 @@ use Prim.Native.Nat.{ℕ, _≤_, _<_, _^_}
 use mathlib.Core.Path.{_≡_}
 use mathlib.Core.Bool.{true}
 use mathlib.Core.List.{List}
-use lib.ListN.{length, drop}
-use Rattle.fields.specs.Numbers.{num, part, zeros, allZero}
+use lib.ListN.{length}
+use Rattle.fields.specs.Numbers.{part, zeros, allZero}
 use Rattle.headers.specs.declared.header.Header.{Header}
 use Rattle.headers.specs.Header.{Fit}
 use Rattle.headers.specs.Tests.{first}
 use Rattle.headers.specs.Format.{unitOk}
 use Rattle.headers.specs.Layout.{Layout}
 use Rattle.ethernet.specs.declared.frame.Frame.{Frame}
-use Rattle.ethernet.specs.Fields.{frameIn, structureLength, longestFrame, Framed}
+use Rattle.ethernet.specs.Fields.{frameIn, longestFrame, Framed}
 use Rattle.ethernet.specs.Event.{event, lengthFault}
 
 -- the four bytes at 28 are reserved

@@ -2,15 +2,13 @@
 -- the type number alone, the `kind` of their layout.
 use Prim.Native.Nat.{ℕ, _<_, _^_}
 use mathlib.Core.List.{List}
-use lib.ListN.{drop}
-use Rattle.fields.specs.Numbers.{num}
 use Rattle.fields.specs.Digits.{le}
 use Rattle.headers.specs.declared.header.Header.{Header}
 use Rattle.headers.specs.Tests.{first}
 use Rattle.headers.specs.Format.{unitOk}
 use Rattle.headers.specs.Layout.{Layout}
 use Rattle.ethernet.specs.declared.frame_error.FrameError.{FrameError}
-use Rattle.ethernet.specs.Fields.{errorIn, structureLength, Framed, frameOf}
+use Rattle.ethernet.specs.Fields.{errorIn, Framed}
 use Rattle.ethernet.specs.Event.{event, lengthFault}
 use Rattle.ethernet.specs.Frame.{ValidFrame}
 

@@ -1,11 +1,10 @@
 -- 01, type 50: FlexRay receive, 330 bytes (002, 3.7). Offsets from the header's end.
 use Prim.Native.Nat.{ℕ, _<_, _^_}
 use mathlib.Core.Path.{_≡_}
-use mathlib.Core.Bool.{Bool, true, _&&_}
+use mathlib.Core.Bool.{true}
 use mathlib.Core.List.{List, _++_}
-use lib.Dec.{leb}
 use lib.ListN.{length, getD}
-use Rattle.fields.specs.Numbers.{part, num, zeros, allZero, nums}
+use Rattle.fields.specs.Numbers.{part, num, zeros, allZero}
 use Rattle.fields.specs.Digits.{le, array}
 use Rattle.headers.specs.declared.header.Header.{Header}
 use Rattle.headers.specs.Header.{Fit}

@@ -1,5 +1,5 @@
 -- What is printed, case by case. Assumes nothing.
-use mathlib.Core.Path.{_≡_, refl, sym, _∙_}
+use mathlib.Core.Path.{_≡_, refl}
 use mathlib.Core.Bool.{Bool, true, false, cond}
 use mathlib.Core.List.{List}
 use Prim.Native.Nat.{ℕ, _≤_, _<_}
@@ -10,7 +10,6 @@ use lib.Dec.{ltb}
 use Rattle.objects.specs.declared.Walked.{Walked}
 use Rattle.objects.specs.Named.{Entry}
 use Rattle.objects.specs.Walk.{walkOf}
-use Rattle.slips.specs.declared.pass.Verdict.{Verdict}
 use Rattle.slips.specs.declared.pass.Verdict.the-variants.{Accepted, Refused}
 use Rattle.slips.specs.Cut.{Cut, Slips, Fault, cutOf}
 use Rattle.slips.specs.Check as check

@@ -1,18 +1,16 @@
 -- The entries' ends, as `past` and `outside` test them: what each loop knows before a turn, and what each way out answers. Assumes nothing.
-use mathlib.Core.Path.{_≡_, refl, sym, ap, _∙_}
-use mathlib.Core.Bool.{Bool, true, false, cond, _||_}
-use mathlib.Core.Logic.{_⊎_, ⊎-elim}
-use mathlib.Core.List.{List, [], _∷_}
+use mathlib.Core.Path.{_≡_, sym, ap, _∙_}
+use mathlib.Core.Bool.{Bool, true, false, _||_}
+use mathlib.Core.Logic.{⊎-elim}
+use mathlib.Core.List.{List, _∷_}
 use Prim.Native.Nat.{ℕ, zero, suc, _+_, _*_, _-_, _/_, _≤_, _<_}
 use native.Mathlib.Omega.{arith}
 use borrow.Author.Tests.{lt-ltb, le-ltb}
 use lib.ListN.{length, drop, length-drop}
 use lib.Seq.{drop-drop}
 use Rattle.fields.specs.Numbers.{big}
-use Rattle.slips.specs.Cut.{Slip, slipLimit, entryIn, entriesIn, lengthIn, deskIn, slipIn, Cut, Slips, Fault, cutFrom, cutOf}
-use Rattle.slips.specs.Bundle.{slipLength}
-use Rattle.slips.proofs.Format.SlipFaults.{Whole}
-use Rattle.slips.proofs.Format.Cuts.{behind, Next, next-slip, last-slip}
+use Rattle.slips.specs.Cut.{Slip, slipLimit, entryIn, entriesIn, lengthIn, deskIn, slipIn, Slips, cutFrom, cutOf}
+use Rattle.slips.proofs.Format.Cuts.{Next, next-slip, last-slip}
 use Rattle.judging.specs.Outside.{past, pastOn, outsideOf, Cuts}
 
 -- i entries are behind, and none of them ends past the log

@@ -4,7 +4,7 @@ use mathlib.Core.Path.{_≡_}
 use mathlib.Core.Bool.{true}
 use mathlib.Core.List.{List, _++_}
 use lib.ListN.{length, drop, getD}
-use Rattle.fields.specs.Numbers.{num, part, allZero, zeros, nums}
+use Rattle.fields.specs.Numbers.{part, allZero, zeros}
 use Rattle.fields.specs.Digits.{le, array}
 use Rattle.headers.specs.declared.header.Header.{Header}
 use Rattle.headers.specs.Header.{Fit}

@@ -2,13 +2,10 @@
 -- the object.
 use Prim.Native.Nat.{ℕ, _<_, _^_}
 use mathlib.Core.Path.{_≡_}
-use mathlib.Core.Bool.{Bool, true, false, not, cond}
+use mathlib.Core.Bool.{true}
 use mathlib.Core.Logic.{_↔_}
 use mathlib.Core.List.{List, [], _++_}
-use lib.ListN.{length}
-use lib.Dec.{eqb}
-use lib.Ieee.{Float, nan, inf, fin, binary64, ofBits, toBits, fits}
-use Rattle.fields.specs.Numbers.{num}
+use lib.Ieee.{Float, binary64, toBits, fits}
 use Rattle.fields.specs.Digits.{le}
 use Rattle.lin.specs.declared.tail.Tail.{Tail}
 use Rattle.lin.specs.declared.tail.Tail.the-variants.{Nothing, Response, Rates}

@@ -1,16 +1,15 @@
 -- What the listing loop knows: the lines so far stand at the buffer's start, and with those to come they are the listing. Assumes nothing.
 use mathlib.Core.Path.{_≡_, refl, sym, ap, _∙_, subst}
-use mathlib.Core.List.{List, [], _∷_, _++_, append-assoc}
+use mathlib.Core.List.{List, [], _++_, append-assoc}
 use Prim.Native.Nat.{ℕ, zero, suc, _+_, _*_, _-_, _≤_, _<_}
 use native.Mathlib.Omega.{arith}
 use lib.ListN.{length, length-append}
-use Rattle.fields.specs.Written.{Wrote}
 use Rattle.fields.proofs.Writing.{wrote-length}
 use Rattle.objects.specs.declared.Step.{Step}
 use Rattle.objects.specs.declared.Answer.{Answer}
 use Rattle.objects.specs.declared.Answer.the-variants.{Object, Done, Refused}
 use Rattle.objects.specs.Next.{nextAt}
-use Rattle.objects.proofs.Walks.{Ahead, ahead}
+use Rattle.objects.proofs.Walks.{ahead}
 use Rattle.listing.specs.Text.{said, lineOf, objectLine, endLine, refusedLine, Said}
 use Rattle.listing.specs.Listing.{listFrom, listingOf}
 use Rattle.listing.proofs.Decimals.{decimal-short}

@@ -1,5 +1,5 @@
 -- Texts put in a buffer, one behind the other. Assumes nothing.
-use mathlib.Core.Path.{_≡_, refl, sym, ap, subst, _∙_}
+use mathlib.Core.Path.{_≡_, refl, sym, subst, _∙_}
 use mathlib.Core.List.{List, _++_}
 use Prim.Native.Nat.{ℕ, _+_, _≤_, _<_}
 use native.Mathlib.Nat.{add-assoc}
@@ -10,7 +10,7 @@ use Rattle.io.specs.Digits.{digits, Fewest}
 use Rattle.io.specs.Counts.{Counts}
 use Rattle.fields.specs.Written.{Wrote}
 use Rattle.fields.proofs.Writing.{then, wrote-length}
-use Rattle.listing.specs.Text.{decimal, said, Said}
+use Rattle.listing.specs.Text.{said, Said}
 use Rattle.listing.proofs.Decimals.{decimal-short, in-decimal}
 
 pub counts : (n : ℕ) (xs : List ℕ) → n ≤ length xs → Counts n xs

@@ -6,7 +6,6 @@ use Rattle.objects.specs.declared.Answer.{Answer}
 use Rattle.objects.specs.declared.Answer.the-variants as answer
 use Rattle.objects.specs.declared.Walked.{Walked}
 use Rattle.objects.specs.declared.Walked.the-variants as walked
-use Rattle.objects.specs.declared.Step.{Step}
 use Rattle.objects.specs.Kinds as kind
 use Rattle.objects.specs.Next.{nextAt}
 use Rattle.objects.specs.Walk.{walkOf}

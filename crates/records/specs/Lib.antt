@@ -1,1 +1,3 @@
+pub mod Object
 pub mod Rewrite
+pub mod Copied

@@ -5,7 +5,6 @@ use mathlib.Core.List.{List}
 use lib.ListN.{length}
 use Rattle.objects.specs.declared.Walked.the-variants as walked
 use Rattle.objects.specs.Walk.{walkOf}
-use Rattle.objects.specs.Items.{Item}
 use Rattle.objects.specs.Logs.{LogOf}
 use Rattle.objects.specs.Named.{entriesOf}
 use Rattle.slips.specs.Cut.{Slip}

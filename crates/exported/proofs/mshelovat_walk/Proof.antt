@@ -1,5 +1,5 @@
 -- `exported::mshelovat_walk` meets its contract: each way of the answer is told as it is. Assumes nothing.
-use mathlib.Core.Path.{_≡_, sym, ap, _∙_}
+use mathlib.Core.Path.{sym, ap, _∙_}
 use borrow.Author.Needs.{needs}
 use Rattle.objects.specs.declared.Walked.{Walked}
 use Rattle.exported.specs.Replies.{lent, walkReply}

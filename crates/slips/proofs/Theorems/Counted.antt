@@ -9,7 +9,6 @@ use native.Mathlib.Omega.{arith}
 use lib.ListN.{length}
 use lib.Dec.{eqb}
 use Rattle.fields.specs.Numbers.{Bytes}
-use Rattle.objects.specs.Items.{Item}
 use Rattle.objects.specs.Logs.{LogOf}
 use Rattle.objects.specs.Named.{Entry, In, Rising, entriesOf}
 use Rattle.objects.proofs.Naming.{entries-rise, within, one-log}

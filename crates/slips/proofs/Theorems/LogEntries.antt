@@ -8,7 +8,6 @@ use Rattle.fields.specs.Numbers.{Bytes}
 use Rattle.objects.specs.declared.Answer.{Answer}
 use Rattle.objects.specs.declared.Answer.the-variants.{Object, Done, Refused}
 use Rattle.objects.specs.Next.{nextAt}
-use Rattle.objects.specs.Items.{Item}
 use Rattle.objects.specs.Logs.{LogOf}
 use Rattle.objects.specs.Named.{Entry, Objects, entriesOf}
 use Rattle.objects.proofs.Naming.{walking-less, log-objects}

@@ -1,9 +1,8 @@
 -- `can_records::write_statistic` meets its contract: refused, or header, body and padding; what is not refused is valid. Assumes nothing.
-use mathlib.Core.Path.{_≡_, refl, sym, ap}
+use mathlib.Core.Path.{refl, sym, ap}
 use Prim.Native.Nat.{ℕ, _+_}
 use native.Mathlib.Omega.{arith}
 use borrow.Author.Needs.{needs}
-use lib.ListN.{length}
 use Rattle.fields.specs.Digits.{le}
 use Rattle.fields.proofs.Writing.{then}
 use Rattle.headers.specs.Format.{headerLength}
@@ -12,7 +11,7 @@ use Rattle.can.proofs.KnownLaws.{statistic-known}
 use Rattle.can.proofs.StatisticLaws.{statistic-length}
 use Rattle.objects.specs.Kinds.{statistic}
 use Rattle.objects.specs.Items.{known}
-use Rattle.outcomes.proofs.Writing.{refused, refusal-is, Taken, taken, closed}
+use Rattle.outcomes.proofs.Writing.{refused, refusal-is, taken, closed}
 use Rattle.can_records.proofs.statistic.write_statistic.Statement.{statement}
 use Rattle.can_records.proofs.statistic.write_statistic.Tie as tie
 

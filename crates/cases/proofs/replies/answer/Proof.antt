@@ -1,5 +1,5 @@
 -- `cases::answer` meets its contract: too short, of another length, and a case. Assumes nothing.
-use mathlib.Core.Path.{_≡_, _∙_}
+use mathlib.Core.Path.{_∙_}
 use native.Mathlib.Omega.{arith}
 use Rattle.cases.proofs.Asked.{short-case, odd-case, whole-case}
 use borrow.Author.Needs.{needs}

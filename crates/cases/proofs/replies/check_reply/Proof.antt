@@ -1,5 +1,5 @@
 -- `cases::check_reply` meets its contract, variant by variant. Assumes nothing.
-use mathlib.Core.Path.{_≡_, sym, ap, _∙_}
+use mathlib.Core.Path.{sym, ap, _∙_}
 use Rattle.cases.specs.Replies.{checkReply}
 use borrow.Author.Needs.{needs}
 use Rattle.cases.proofs.replies.check_reply.Statement.{statement}

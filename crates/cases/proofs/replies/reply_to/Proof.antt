@@ -1,5 +1,5 @@
 -- `cases::reply_to` meets its contract, question by question. Assumes nothing.
-use mathlib.Core.Path.{_≡_, ap, _∙_}
+use mathlib.Core.Path.{ap, _∙_}
 use Rattle.cases.specs.Replies.{stepReply, walkReply, checkReply}
 use Rattle.cases.proofs.Asked.{step-asked, walk-asked, check-asked, not-asked}
 use borrow.Author.Needs.{needs}

@@ -1,5 +1,5 @@
 -- `cases::step_reply` meets its contract, variant by variant. Assumes nothing.
-use mathlib.Core.Path.{_≡_, sym, ap, _∙_}
+use mathlib.Core.Path.{sym, ap, _∙_}
 use Rattle.cases.specs.Replies.{answerReply}
 use Rattle.cases.proofs.Asked.{done}
 use borrow.Author.Needs.{needs}

@@ -1,5 +1,5 @@
 -- `cases::walk_reply` meets its contract, variant by variant. Assumes nothing.
-use mathlib.Core.Path.{_≡_, sym, ap, _∙_}
+use mathlib.Core.Path.{sym, ap, _∙_}
 use Rattle.cases.specs.Replies.{walkReply}
 use borrow.Author.Needs.{needs}
 use Rattle.cases.proofs.replies.walk_reply.Statement.{statement}

@@ -1,9 +1,8 @@
 -- `ethernet_records::write_status` meets its contract: refused, or header, body and padding; what is not refused is valid. Assumes nothing.
-use mathlib.Core.Path.{_≡_, refl, sym, ap}
+use mathlib.Core.Path.{refl, sym, ap}
 use Prim.Native.Nat.{ℕ, _+_}
 use native.Mathlib.Omega.{arith}
 use borrow.Author.Needs.{needs}
-use lib.ListN.{length}
 use Rattle.fields.specs.Digits.{le}
 use Rattle.fields.proofs.Writing.{then}
 use Rattle.headers.specs.Format.{headerLength}
@@ -12,7 +11,7 @@ use Rattle.ethernet.proofs.KnownLaws.{status-known}
 use Rattle.ethernet.proofs.StatusLaws.{status-length}
 use Rattle.objects.specs.Kinds.{status}
 use Rattle.objects.specs.Items.{known}
-use Rattle.outcomes.proofs.Writing.{refused, refusal-is, Taken, taken, closed}
+use Rattle.outcomes.proofs.Writing.{refused, refusal-is, taken, closed}
 use Rattle.ethernet_records.proofs.status.write_status.Statement.{statement}
 use Rattle.ethernet_records.proofs.status.write_status.Tie as tie
 

@@ -1,5 +1,5 @@
 -- `flexray_records::write_receive` meets its contract: refused, or header, body and padding; what is not refused is valid. Assumes nothing.
-use mathlib.Core.Path.{_≡_, refl, sym, ap, _∙_}
+use mathlib.Core.Path.{refl, sym, ap, _∙_}
 use mathlib.Core.Bool.{Bool}
 use Prim.Native.Nat.{ℕ, _+_}
 use native.Mathlib.Omega.{arith}
@@ -14,7 +14,7 @@ use Rattle.flexray.proofs.ReceiveLaws.{receive-length}
 use Rattle.objects.specs.Kinds.{receive}
 use Rattle.objects.specs.Items.{known}
 use Rattle.outcomes.specs.Writes.{refusalBy}
-use Rattle.outcomes.proofs.Writing.{refused, refusal-is, Taken, taken, closed}
+use Rattle.outcomes.proofs.Writing.{refused, refusal-is, taken, closed}
 use Rattle.flexray_records.proofs.receive.write_receive.Statement.{statement}
 use Rattle.flexray_records.proofs.receive.write_receive.Tie as tie
 

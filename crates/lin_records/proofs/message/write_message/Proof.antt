@@ -1,7 +1,7 @@
 -- `lin_records::write_message` meets its contract: refused, or header, body and padding; what is not refused is valid. Assumes nothing.
 use mathlib.Core.Path.{_≡_, refl, sym, ap, _∙_}
 use mathlib.Core.Bool.{Bool}
-use Prim.Native.Nat.{ℕ, _+_, _≤_}
+use Prim.Native.Nat.{_+_, _≤_}
 use native.Mathlib.Omega.{arith}
 use borrow.Author.Needs.{needs}
 use lib.ListN.{length}
@@ -16,7 +16,7 @@ use Rattle.lin.proofs.MessageLaws.{message-length}
 use Rattle.objects.specs.Kinds.{linMessage}
 use Rattle.objects.specs.Items.{known}
 use Rattle.outcomes.specs.Writes.{refusalBy}
-use Rattle.outcomes.proofs.Writing.{refused, refusal-is, Taken, taken, closed}
+use Rattle.outcomes.proofs.Writing.{refused, refusal-is, taken, closed}
 use Rattle.lin_records.proofs.TailFits.{tail-short}
 use Rattle.lin_records.proofs.message.write_message.Statement.{statement}
 use Rattle.lin_records.proofs.message.write_message.Tie as tie

@@ -1,9 +1,8 @@
 -- `lin_records::write_wake_up` meets its contract: refused, or header, body and padding; what is not refused is valid. Assumes nothing.
-use mathlib.Core.Path.{_≡_, refl, sym, ap}
+use mathlib.Core.Path.{refl, sym, ap}
 use Prim.Native.Nat.{ℕ, _+_}
 use native.Mathlib.Omega.{arith}
 use borrow.Author.Needs.{needs}
-use lib.ListN.{length}
 use Rattle.fields.specs.Digits.{le}
 use Rattle.fields.proofs.Writing.{then}
 use Rattle.headers.specs.Format.{headerLength}
@@ -12,7 +11,7 @@ use Rattle.lin.proofs.KnownLaws.{wake-up-known}
 use Rattle.lin.proofs.WakeUpLaws.{wake-up-length}
 use Rattle.objects.specs.Kinds.{wakeUp}
 use Rattle.objects.specs.Items.{known}
-use Rattle.outcomes.proofs.Writing.{refused, refusal-is, Taken, taken, closed}
+use Rattle.outcomes.proofs.Writing.{refused, refusal-is, taken, closed}
 use Rattle.lin_records.proofs.wake_up.write_wake_up.Statement.{statement}
 use Rattle.lin_records.proofs.wake_up.write_wake_up.Tie as tie
 
