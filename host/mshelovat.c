@@ -1,6 +1,6 @@
 /* Mshelovat on files of any size, over the proved calls: mshelovat list LOG, mshelovat check LOG BUNDLE.
- * Prints what the lister and the desk program print. Exit status: 0 accepted, 1 refused, 2 usage, a file or the output.
- * No file may be cut while it is read. */
+ * Prints what the lister and the desk program print. Exit status: 0 accepted, 1 refused, 2 where the usage is wrong, a file
+ * can't be read or the output can't be written. No file may be cut while it is read. */
 #include <stddef.h>
 #include <stdint.h>
 
@@ -50,14 +50,14 @@ static void show_listed(size_t at, size_t length)
 
 static void show_checking(size_t length)
 {
-    if (shown && length > SPAN)
+    if (shown && length >= SPAN)
         fprintf(stderr, "\rchecking %zu bytes", length);
 }
 
 /* Takes the last figure from the terminal. */
 static void show_end(size_t length)
 {
-    if (shown && length > SPAN)
+    if (shown && length >= SPAN)
         fprintf(stderr, "\r\033[K");
 }
 
