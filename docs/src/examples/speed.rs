@@ -1,7 +1,6 @@
 //! Times the proved walk and check beside the independent reader, on 64 MiB. `docs/speed` builds and runs it: it needs the
-//! archive that `rt staticlib exported` makes, which is for x86-64 alone.
+//! archive of `exported` for this processor, which `docs/native-object` makes.
 
-#[cfg(target_arch = "x86_64")]
 mod timed {
     use mshelovat_reference::gen::{self, Rng};
     use mshelovat_reference::layout::Refusal;
@@ -171,13 +170,14 @@ mod timed {
         answer.expect("a sound log and an honest bundle") as u64
     }
 
-    fn line(what: &str, bytes: usize, proved: f64, plain: f64, memory: f64) {
+    fn line(what: &str, bytes: usize, objects: u64, proved: f64, plain: f64, memory: f64) {
         let speed = |t: f64| bytes as f64 / t / 1e9;
         println!(
-            "| {what} | {:.1} | {:.1} | {:.2} | {:.2} | {:.2} |",
+            "| {what} | {:.1} | {:.1} | {:.2} | {:.1} | {:.2} | {:.2} |",
             1e3 * proved,
             1e3 * plain,
             proved / plain,
+            1e9 * proved / objects as f64,
             speed(proved),
             speed(memory)
         );
@@ -201,28 +201,22 @@ mod timed {
             &|| count(slips::check(black_box(&log), &one)),
             &|| read(black_box(&log)),
         ]);
-        let name = format!("{name}, {} objects", count(objects));
-        line(&format!("{name}: walk"), log.len(), t[0], t[1], t[6]);
-        line(
-            &format!("{name}: check, eight equal slips"),
-            log.len(),
-            t[2],
-            t[3],
-            t[6],
-        );
-        line(
-            &format!("{name}: check, one slip with everything"),
-            log.len(),
-            t[4],
-            t[5],
-            t[6],
-        );
+        let n = count(objects);
+        let row = |call: &str, i: usize| {
+            let what = format!("{name}, {n} objects: {call}");
+            line(&what, log.len(), n, t[i], t[i + 1], t[6]);
+        };
+        row("walk", 0);
+        row("check, eight equal slips", 2);
+        row("check, one slip with everything", 4);
     }
 
     pub fn main() {
         agree(100_000);
-        println!("| log | proved, ms | Rust, ms | ratio | proved, GB/s | memory read, GB/s |");
-        println!("|---|---|---|---|---|---|");
+        println!(
+            "| log | proved, ms | Rust, ms | ratio | ns an object | GB/s | memory read, GB/s |"
+        );
+        println!("|---|---|---|---|---|---|---|");
         let rng = &mut Rng(3);
         time("48 to 1,676 bytes", &pieces(rng, &gen::LISTED, 48, 1_676));
         time("48 bytes (CAN)", &pieces(rng, &[1], 48, 48));
@@ -234,12 +228,6 @@ mod timed {
     }
 }
 
-#[cfg(target_arch = "x86_64")]
 fn main() {
     timed::main();
-}
-
-#[cfg(not(target_arch = "x86_64"))]
-fn main() {
-    eprintln!("speed: the archive is for x86-64 alone");
 }

@@ -155,10 +155,14 @@ fn plain_trouble(start: u32, entries: &[Entry], objects: &[Entry]) -> Option<u8>
 
 // ----------------------------------------------------------------- fast
 
-/// Where the reading of one slip's entries stands, and where they end.
-#[derive(Clone, Copy, Default)]
+/// Where the reading of one slip stands: its next entry, which is read once,
+/// where the one behind it starts, and where the slip ends.
+#[derive(Clone, Copy)]
 struct Place {
-    place: usize,
+    start: u64,
+    size: u32,
+    kind: u32,
+    behind: usize,
     end: usize,
 }
 
@@ -166,15 +170,24 @@ struct Place {
 type Places = [Place; SLIP_LIMIT];
 
 impl Place {
-    /// The entry at the reading place, if any is left.
-    fn entry(self, bundle: &[u8]) -> Option<Entry> {
-        (self.place < self.end).then(|| Entry::read(bundle, self.place))
-    }
+    /// The start where no entry is left: above every start.
+    const NONE: u64 = u64::MAX;
 
-    fn behind(self) -> Place {
+    /// Entries from a place of the bundle up to an end.
+    fn new(bundle: &[u8], place: usize, end: usize) -> Place {
+        let (start, size, kind) = if place < end {
+            let entry = Entry::read(bundle, place);
+            (entry.start.into(), entry.size, entry.kind)
+        } else {
+            (Place::NONE, 0, 0)
+        };
+        let behind = place + ENTRY_LENGTH;
         Place {
-            place: self.place + ENTRY_LENGTH,
-            end: self.end,
+            start,
+            size,
+            kind,
+            behind,
+            end,
         }
     }
 }
@@ -195,12 +208,12 @@ pub fn check(log: &[u8], bundle: &[u8]) -> Result<usize, Refusal> {
         };
         // A refusal of the walk further on goes before any trouble.
         if trouble.is_none() {
-            (places, trouble) = meet(bundle, places, Entry::naming(&object));
+            trouble = meet(bundle, &mut places, Entry::naming(&object));
         }
         count += 1;
         position = object.next;
     }
-    match trouble.or_else(|| left_over(bundle, &places)) {
+    match trouble.or_else(|| left_over(&places)) {
         Some(refusal) => Err(refusal),
         None => Ok(count),
     }
@@ -209,7 +222,7 @@ pub fn check(log: &[u8], bundle: &[u8]) -> Result<usize, Refusal> {
 /// Judges the bundle slip by slip: 24, 20, 21, 22, 23. Slips that are not
 /// there get an empty reading place.
 fn reading_places(bundle: &[u8]) -> Result<Places, Refusal> {
-    let mut places = Places::default();
+    let mut places = [Place::new(bundle, 0, 0); SLIP_LIMIT];
     let mut desk_before = None;
     let (mut slip, mut start) = (0, 0);
     while start < bundle.len() {
@@ -218,10 +231,7 @@ fn reading_places(bundle: &[u8]) -> Result<Places, Refusal> {
         }
         let end = judge_slip(bundle, start, desk_before).map_err(|n| Refusal::new(n, start))?;
         desk_before = Some(bundle[start + 5]);
-        places[slip] = Place {
-            place: start + SLIP_HEAD,
-            end,
-        };
+        places[slip] = Place::new(bundle, start + SLIP_HEAD, end);
         slip += 1;
         start = end;
     }
@@ -259,39 +269,40 @@ fn judge_slip(bundle: &[u8], start: usize, desk_before: Option<u8>) -> Result<us
 
 /// Lets the slips meet the next object. The entries up to the object before
 /// have been read, so an entry that starts before this object is stray.
-fn meet(bundle: &[u8], mut places: Places, object: Entry) -> (Places, Option<Refusal>) {
-    if let Some(start) = smallest_start(bundle, &places).filter(|s| *s < object.start) {
-        return (places, Some(Refusal::new(number::STRAY, start as usize)));
+fn meet(bundle: &[u8], places: &mut Places, object: Entry) -> Option<Refusal> {
+    let start = u64::from(object.start);
+    if smallest_start(places) < start {
+        return left_over(places);
     }
     let (mut naming, mut stray) = (0, false);
-    for place in &mut places {
-        let Some(entry) = place.entry(bundle).filter(|e| e.start == object.start) else {
+    for place in places {
+        if place.start != start {
             continue;
-        };
-        if entry == object {
+        }
+        if (place.size, place.kind) == (object.size, object.kind) {
             naming += 1;
         } else {
             stray = true;
         }
-        *place = place.behind();
+        *place = Place::new(bundle, place.behind, place.end);
     }
     let number = match (stray, naming) {
         (true, _) => number::STRAY,
         (false, 0) => number::UNLISTED,
-        (false, 1) => return (places, None),
+        (false, 1) => return None,
         (false, _) => number::TWICE,
     };
-    (places, Some(Refusal::new(number, object.start as usize)))
+    Some(Refusal::new(number, object.start as usize))
 }
 
 /// The smallest start among the entries at the reading places.
-fn smallest_start(bundle: &[u8], places: &Places) -> Option<u32> {
-    let entries = places.iter().filter_map(|place| place.entry(bundle));
-    entries.map(|entry| entry.start).min()
+fn smallest_start(places: &Places) -> u64 {
+    let starts = places.iter().map(|place| place.start);
+    starts.min().unwrap_or(Place::NONE)
 }
 
 /// After the last object every entry left is stray.
-fn left_over(bundle: &[u8], places: &Places) -> Option<Refusal> {
-    let start = smallest_start(bundle, places)?;
-    Some(Refusal::new(number::STRAY, start as usize))
+fn left_over(places: &Places) -> Option<Refusal> {
+    let start = smallest_start(places);
+    (start != Place::NONE).then(|| Refusal::new(number::STRAY, start as usize))
 }

@@ -3,6 +3,7 @@
 
 mod common;
 use common::*;
+use mshelovat_reference::layout::{row, TYPE_LIST};
 use mshelovat_reference::object::{foreign_view, frame_view, rest, step, walk, Answer};
 use mshelovat_reference::records::*;
 use mshelovat_reference::slips::{check, check_plain, is_long};
@@ -31,6 +32,16 @@ fn signature_every_byte() {
         let mut log = m2();
         log[at] ^= 0x20;
         assert_eq!(walk(&log), refused(2, 0));
+    }
+}
+
+#[test]
+fn every_type_finds_its_row() {
+    for listed in &TYPE_LIST {
+        assert_eq!(row(listed.kind).map(|found| found.kind), Some(listed.kind));
+    }
+    for foreign in [0, 2, 5, 119, 124, 9_999, u32::MAX] {
+        assert!(row(foreign).is_none(), "{foreign}");
     }
 }
 
