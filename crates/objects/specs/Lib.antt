@@ -8,3 +8,4 @@ pub mod Views
 pub mod Given
 pub mod Faults
 pub mod Items
+pub mod Stepping

@@ -9,7 +9,8 @@ use Rattle.objects.specs.declared.Answer.{Answer}
 use Rattle.objects.specs.declared.Answer.the-variants.{Object, Done, Refused}
 use Rattle.objects.specs.Next.{nextAt}
 use Rattle.objects.specs.Logs.{LogOf}
-use Rattle.objects.specs.Named.{Entry, Objects, entriesOf}
+use Rattle.objects.specs.Named.{Entry, entriesOf}
+use Rattle.objects.specs.Stepping.{Objects}
 use Rattle.objects.proofs.Naming.{walking-less, log-objects}
 use Rattle.slips.specs.Check.{objectsOn, objectsFrom, objectsOf}
 
