@@ -1,5 +1,6 @@
 -- What a C caller gets: the number that a call returns, and the numbers that it leaves in the slice lent to it.
 use Prim.Native.Nat.{ℕ}
+use mathlib.Core.Path.{_≡_}
 use mathlib.Core.Bool.{cond}
 use mathlib.Core.List.{List, [], _∷_}
 use lib.ListN.{length}
@@ -23,6 +24,11 @@ reply n vs = record { number = n; values = vs }
 -- no room for the values: 10, and the lent slice as it was; else the values at its front, and the rest of it as it was
 unfoldable pub lent : Reply → List ℕ → Reply
 lent t xs = cond (leb (length (t .values)) (length xs)) (reply (t .number) (sets xs 0 (t .values))) (reply 10 xs)
+
+-- What a call leaves that also fills a slice x: the number and the values, and x as z where the values have room, else as it was.
+pub record Filled (t : Reply) (z : List ℕ) (r : ℕ) (x y us vs : List ℕ) : Type 0 where
+  pub told : reply r vs ≡ lent t us
+  pub filled : y ≡ cond (leb (length (t .values)) (length us)) z x
 
 -- 0 and the count, or the refusal's number and its place
 abbrev pub walkReply : Walked → Reply

@@ -1,8 +1,14 @@
-// The walk, one step and the slip check for C and Rust: numbers in, the answer's number out, its values into a lent slice.
+// The calls for C and Rust: numbers and slices in, the answer's number out, its values into a lent slice.
 // A lent slice that is too short is answered by 10, and nothing is written. include/mshelovat.h has the C side.
+mod list;
+mod record;
+
+pub use list::mshelovat_list;
 use objects::Answer;
 use objects::Cursor;
 use objects::Walked;
+pub use record::mshelovat_read;
+pub use record::mshelovat_write;
 use slips::Verdict;
 ghost use mathlib.Core.Path.{_≡_};
 ghost use mathlib.Core.List.{List, [], _∷_};
@@ -25,6 +31,18 @@ fn tell(out: &mut [u64], number: u32, value: usize) -> u32
         return ROOM;
     }
     out[0] = value as u64;
+    number
+}
+
+// Answers this number, and two values into the lent slice.
+fn tell_two(out: &mut [u64], number: u32, a: usize, b: usize) -> u32
+    ensures { λ r. ⌜ reply r (now (out .exit)) ≡ lent (reply number (a ∷ b ∷ [])) (now (out .entry)) ⌝ }
+{
+    if out.len() < 2 {
+        return ROOM;
+    }
+    out[0] = a as u64;
+    out[1] = b as u64;
     number
 }
 

@@ -1,0 +1,85 @@
+// The objects of a log from a position on, listed in a lent slice.
+use crate::DONE;
+use crate::ROOM;
+use crate::tell_two;
+use objects::Answer;
+use objects::Cursor;
+ghost use mathlib.Core.Path.{_≡_};
+ghost use mathlib.Core.List.{List, [], _∷_};
+ghost use Prim.Native.Nat.{_+_, _≤_};
+ghost use lib.ListN.{length};
+ghost use lib.Seq.{sets};
+ghost use Rattle.exported.specs.Replies.{Filled};
+ghost use Rattle.exported.specs.Lists.{listed, listOf, listReply};
+
+// The number to be told, how many objects were listed, and the position where the next call goes on.
+struct Listed {
+    number: u32,
+    count: usize,
+    at: usize,
+}
+
+// Lists one object at a place of the slice.
+fn enter(entries: &mut [u64], i: usize, start: usize, size: usize, kind: u32)
+    requires { ⌜ i + 3 ≤ length (now entries) ⌝ }
+    ensures { λ _. ⌜ now (entries .exit) ≡ sets (now (entries .entry)) i (start ∷ size ∷ kind ∷ []) ⌝ }
+{
+    entries[i] = start as u64;
+    entries[i + 1] = size as u64;
+    entries[i + 2] = kind as u64;
+}
+
+// Lists the objects from the cursor on, until there is no room, the log ends, or an object is refused.
+fn list(log: &[u8], at: usize, entries: &mut [u64]) -> Listed
+    ensures { λ r. ⌜ listed (r .number) (r .count) (r .at) (now (entries .exit)) ≡ listOf (now (log .entry)) at (now (entries .entry)) ⌝ }
+{
+    let room = entries.len() / 3;
+    let mut c = Cursor { at };
+    let mut n: usize = 0;
+    while n < room {
+        let step = c.step(log);
+        let answer = step.answer;
+        let Answer::Object { start, size, kind } = answer else {
+            match answer {
+                Answer::Refused { number, place } => {
+                    return Listed {
+                        number,
+                        count: n,
+                        at: place,
+                    };
+                }
+                _ => {
+                    return Listed {
+                        number: DONE,
+                        count: n,
+                        at: c.at,
+                    };
+                }
+            }
+        };
+        enter(entries, 3 * n, start, size, kind);
+        n += 1;
+        let next = step.next;
+        c = next;
+    }
+    Listed {
+        number: 0,
+        count: n,
+        at: c.at,
+    }
+}
+
+// Lists the objects from a position on, three numbers each: start, size, type. 0 where there is no room for another
+// object, 100 at the log's end, or the refusal: each with how many were listed, and the position where the next call
+// goes on, which for a refusal is its place.
+#[no_mangle]
+pub extern "C" fn mshelovat_list(log: &[u8], at: usize, entries: &mut [u64], out: &mut [u64]) -> u32
+    ensures { λ r. ⌜ Filled (listReply (listOf (now (log .entry)) at (now (entries .entry)))) (listOf (now (log .entry)) at (now (entries .entry)) .entries)
+        r (now (entries .entry)) (now (entries .exit)) (now (out .entry)) (now (out .exit)) ⌝ }
+{
+    if out.len() < 2 {
+        return ROOM;
+    }
+    let l = list(log, at, entries);
+    tell_two(out, l.number, l.count, l.at)
+}
