@@ -1,14 +1,12 @@
 // Cases one after another from an input, and their replies to an output.
-use cases::Reply;
+use crate::reading::read;
+use crate::sheet::put_reply;
 use cases::again;
 use cases::answer;
 ghost use Prim.Native.Nat.{_≤_};
 ghost use mathlib.Core.Path.{_≡_};
-ghost use mathlib.Core.List.{_++_};
 ghost use lib.ListN.{length};
-ghost use Rattle.fields.specs.Written.{Wrote};
 ghost use Rattle.io.specs.Counts.{Counts};
-ghost use Rattle.cases.specs.Replies.{replyBytes};
 ghost use Rattle.cases.specs.Again.{Roomy};
 
 // The most bytes of a log, and of a bundle.
@@ -26,18 +24,6 @@ fn page() -> [u8; 65576]
     ensures { λ r. ⌜ 65576 ≡ length r ⌝ }
 {
     [0; 65576]
-}
-
-// The reply's numbers, each in eight bytes.
-fn put_reply(out: &mut [u8], r: Reply)
-    requires { ⌜ 40 ≤ length (now out) ⌝ }
-    ensures { λ _. ⌜ Wrote 0 (replyBytes r) (now (out .entry)) (now (out .exit)) ⌝ }
-{
-    fields::put64(out, 0, r.word);
-    fields::put64(out, 8, r.first);
-    fields::put64(out, 16, r.second);
-    fields::put64(out, 24, r.third);
-    fields::put64(out, 32, r.next);
 }
 
 // The bytes of the case that a head of 17 bytes opens, at most the buffer's length; 0 where the log or the bundle is above the limit.
@@ -113,6 +99,41 @@ fn respond(case: &[u8], out: &mut [u8]) -> usize
     end
 }
 
+// Room for a record's numbers and its frame.
+fn sheet() -> [u8; 4096]
+    ensures { λ r. ⌜ 4096 ≡ length r ⌝ }
+{
+    [0; 4096]
+}
+
+fn write_record(output: i32, case: &[u8], out: &mut [u8]) -> bool
+    requires { ⌜ 40 ≤ length (now out) ⌝ }
+{
+    let used = read(out, case);
+    io::write_all(output, &out[..used])
+}
+
+// Answers a case that asks for a record, from a sheet of its own; whether the reply was written.
+fn tell_record(output: i32, case: &[u8]) -> bool {
+    let mut space = sheet();
+    write_record(output, case, &mut space)
+}
+
+// Answers a case; whether the reply was written.
+fn tell(output: i32, case: &[u8], out: &mut [u8]) -> bool
+    requires { ⌜ 65576 ≡ length (now out) ⌝ }
+    ensures { λ _. ⌜ 65576 ≡ length (now (out .exit)) ⌝ }
+{
+    if case.len() == 0 {
+        return false;
+    }
+    if fields::get8(case, 0) == 5 {
+        return tell_record(output, case);
+    }
+    let used = respond(case, out);
+    io::write_all(output, &out[..used])
+}
+
 // Answers case after case, until the input ends: at most so many.
 pub fn serve(input: i32, output: i32, most: usize) {
     let mut space = room();
@@ -125,8 +146,7 @@ pub fn serve(input: i32, output: i32, most: usize) {
         if n == 0 {
             return;
         }
-        let used = respond(&buf[..n], out);
-        if !io::write_all(output, &out[..used]) {
+        if !tell(output, &buf[..n], out) {
             return;
         }
         done += 1;
