@@ -29,7 +29,8 @@ fn message_of(o: &[u8]) -> can::Message
     can::get_message(headers::get_header(o), headers::body(o))
 }
 
-fn message_in(o: &[u8]) -> can::Message
+// The CAN message that an object's bytes are: zeros where they are too few.
+pub fn message_in(o: &[u8]) -> can::Message
     ensures { λ r. ⌜ r ≡ recordIn message (now (o .entry)) ⌝ }
 {
     if o.len() < SIZE {

@@ -29,7 +29,8 @@ fn overload_of(o: &[u8]) -> can::Overload
     can::get_overload(headers::get_header(o), headers::body(o))
 }
 
-fn overload_in(o: &[u8]) -> can::Overload
+// The overload that an object's bytes are: zeros where they are too few.
+pub fn overload_in(o: &[u8]) -> can::Overload
     ensures { λ r. ⌜ r ≡ recordIn overload (now (o .entry)) ⌝ }
 {
     if o.len() < SIZE {

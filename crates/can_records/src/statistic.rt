@@ -29,7 +29,8 @@ fn statistic_of(o: &[u8]) -> can::Statistic
     can::get_statistic(headers::get_header(o), headers::body(o))
 }
 
-fn statistic_in(o: &[u8]) -> can::Statistic
+// The statistic that an object's bytes are: zeros where they are too few.
+pub fn statistic_in(o: &[u8]) -> can::Statistic
     ensures { λ r. ⌜ r ≡ recordIn statistic (now (o .entry)) ⌝ }
 {
     if o.len() < SIZE {

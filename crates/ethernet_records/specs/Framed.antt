@@ -5,7 +5,8 @@ use mathlib.Core.Path.{_≡_}
 use mathlib.Core.Bool.{cond}
 use mathlib.Core.List.{List}
 use lib.Dec.{leb}
-use Rattle.headers.specs.Header.{headerLength}
+use lib.ListN.{drop}
+use Rattle.headers.specs.Header.{headerLength, bodyOf}
 use Rattle.ethernet.specs.Event.{structureLength, longestFrame, Framed}
 use Rattle.objects.specs.declared.Cursor.{Cursor}
 use Rattle.objects.specs.Kinds.{Kind, Record, layoutOf}
@@ -16,6 +17,10 @@ use Rattle.outcomes.specs.Reads.{lookAt, recordAt}
 -- a record and its frame
 abbrev pub framed : {A : Type 0} → A → List ℕ → Framed A
 framed v bs = record { value = v; bytes = bs }
+
+-- the frame's bytes that stand in an object: what is behind the header and the structure
+abbrev pub bytesIn : List ℕ → List ℕ
+bytesIn o = drop structureLength (bodyOf o)
 
 -- What a read of type k at a place gives, as `Reads` has it, but of the record a part only: what it is told, the next cursor and that part, all
 -- three determined.

@@ -11,7 +11,7 @@ ghost use Rattle.objects.specs.Kinds.{frame, forwardedFrame};
 ghost use Rattle.objects.specs.Items.{known};
 ghost use Rattle.outcomes.specs.Reads.{recordOf, recordIn};
 ghost use Rattle.outcomes.specs.Writes.{Outcome};
-ghost use Rattle.ethernet_records.specs.Framed.{framed, ReadsAs, frameSize};
+ghost use Rattle.ethernet_records.specs.Framed.{framed, bytesIn, ReadsAs, frameSize};
 
 const KIND: u32 = 120;
 
@@ -35,13 +35,24 @@ fn frame_of(o: &[u8]) -> Frame
     ethernet::get_frame(headers::get_header(o), headers::body(o))
 }
 
-fn frame_in(o: &[u8]) -> Frame
+// The frame, or forwarded frame, that an object's bytes are: zeros where they are too few. `bytes_in` gives the frame's bytes.
+pub fn frame_in(o: &[u8]) -> Frame
     ensures { λ r. ⌜ r ≡ recordIn frame (now (o .entry)) .value ⌝ }
 {
     if o.len() < SIZE {
         return frame_of(&[0u8; SIZE]);
     }
     frame_of(o)
+}
+
+// The frame's bytes that stand in an object, of any of the four types: what is behind 64 bytes, none where they are too few.
+pub fn bytes_in(o: &[u8]) -> &[u8]
+    ensures { λ r. ⌜ now r ≡ bytesIn (now (o .entry)) ⌝ }
+{
+    if o.len() < SIZE {
+        return &o[..0];
+    }
+    ethernet::frame_view(headers::body(o))
 }
 
 // The frame at the cursor, of either type.

@@ -34,7 +34,8 @@ fn error_of(o: &[u8]) -> FrameError
     ethernet::get_error(headers::get_header(o), headers::body(o))
 }
 
-fn error_in(o: &[u8]) -> FrameError
+// The error, or forwarded error, that an object's bytes are: zeros where they are too few. `bytes_in` gives the frame's bytes.
+pub fn error_in(o: &[u8]) -> FrameError
     ensures { λ r. ⌜ r ≡ recordIn error (now (o .entry)) .value ⌝ }
 {
     if o.len() < SIZE {

@@ -29,7 +29,8 @@ fn status_of(o: &[u8]) -> ethernet::Status
     ethernet::get_status(headers::get_header(o), headers::body(o))
 }
 
-fn status_in(o: &[u8]) -> ethernet::Status
+// The status that an object's bytes are: zeros where they are too few.
+pub fn status_in(o: &[u8]) -> ethernet::Status
     ensures { λ r. ⌜ r ≡ recordIn status (now (o .entry)) ⌝ }
 {
     if o.len() < SIZE {

@@ -3,4 +3,5 @@ mod receive;
 
 pub use receive::ReceiveRead;
 pub use receive::read_receive;
+pub use receive::receive_in;
 pub use receive::write_receive;

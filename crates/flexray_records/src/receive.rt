@@ -29,7 +29,8 @@ fn receive_of(o: &[u8]) -> flexray::Receive
     flexray::get_receive(headers::get_header(o), headers::body(o))
 }
 
-fn receive_in(o: &[u8]) -> flexray::Receive
+// The FlexRay receive that an object's bytes are: zeros where they are too few.
+pub fn receive_in(o: &[u8]) -> flexray::Receive
     ensures { λ r. ⌜ r ≡ recordIn receive (now (o .entry)) ⌝ }
 {
     if o.len() < SIZE {

@@ -30,7 +30,8 @@ fn message_of(o: &[u8]) -> lin::Message
     lin::get_message(headers::get_header(o), headers::body(o))
 }
 
-fn message_in(o: &[u8]) -> lin::Message
+// The LIN message that an object's bytes are: zeros where they are too few.
+pub fn message_in(o: &[u8]) -> lin::Message
     ensures { λ r. ⌜ r ≡ recordIn linMessage (now (o .entry)) ⌝ }
 {
     if o.len() < SIZE {

@@ -29,7 +29,8 @@ fn wake_up_of(o: &[u8]) -> lin::WakeUp
     lin::get_wake_up(headers::get_header(o), headers::body(o))
 }
 
-fn wake_up_in(o: &[u8]) -> lin::WakeUp
+// The wake-up that an object's bytes are: zeros where they are too few.
+pub fn wake_up_in(o: &[u8]) -> lin::WakeUp
     ensures { λ r. ⌜ r ≡ recordIn wakeUp (now (o .entry)) ⌝ }
 {
     if o.len() < SIZE {

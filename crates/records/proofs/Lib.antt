@@ -1,4 +1,5 @@
 pub mod ForeignLaws
+pub mod ObjectLaws
 pub mod Copies
 pub mod Rewriting
 pub mod ForeignBack

@@ -1,1 +1,2 @@
+pub mod Object
 pub mod Rewrite
