@@ -6,4 +6,5 @@ mod writing;
 pub use replies::Reply;
 pub use replies::answer;
 pub use rewriting::again;
+pub use writing::lay;
 pub use writing::offer;

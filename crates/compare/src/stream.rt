@@ -1,8 +1,11 @@
 // Cases one after another from an input, and their replies to an output.
 use crate::reading::read;
 use crate::sheet::put_reply;
+use cases::Reply;
 use cases::again;
 use cases::answer;
+use cases::lay;
+use cases::offer;
 ghost use Prim.Native.Nat.{_≤_};
 ghost use mathlib.Core.Path.{_≡_};
 ghost use lib.ListN.{length};
@@ -62,14 +65,22 @@ fn next_case(fd: i32, buf: &mut [u8]) -> usize
     n
 }
 
-// The room that a case gives for its log to be written again, and one more; 0 where it asks another question or is none of ours.
-fn rewrite_room(case: &[u8]) -> usize
+// Whether a question asks for a write.
+fn writes(question: u8) -> bool {
+    match question {
+        4 | 6 | 7 => true,
+        _ => false,
+    }
+}
+
+// The room that a case gives for a write, and one more; 0 where it asks another question or is none of ours.
+fn write_room(case: &[u8]) -> usize
     ensures { λ r. ⌜ Roomy (now (case .entry)) r ⌝ }
 {
     if case.len() < 17 {
         return 0;
     }
-    if fields::get8(case, 0) != 4 {
+    if !writes(fields::get8(case, 0)) {
         return 0;
     }
     let room = fields::get64(case, 9) as usize;
@@ -82,19 +93,29 @@ fn rewrite_room(case: &[u8]) -> usize
     room + 1
 }
 
-// Puts the reply to a case to the front of `out`, and behind it, where a log is written again, the bytes of the room; answers where
-// it ends.
+// Writes the bytes to `out`: as a log again, as the object that they are, or as a foreign one.
+fn written(question: u8, bytes: &[u8], out: &mut [u8]) -> Reply {
+    match question {
+        4 => again(bytes, out),
+        6 => lay(bytes, out),
+        _ => offer(bytes, out),
+    }
+}
+
+// Puts the reply to a case to the front of `out`, and behind it, where it asks for a write, the bytes of the room; answers where it
+// ends.
 fn respond(case: &[u8], out: &mut [u8]) -> usize
     requires { ⌜ 65576 ≡ length (now out) ⌝ }
     ensures { λ r. ⌜ (r ≤ length (now (out .exit))) × (65576 ≡ length (now (out .exit))) ⌝ }
 {
-    let more = rewrite_room(case);
+    let more = write_room(case);
     if more == 0 {
         put_reply(out, answer(case));
         return 40;
     }
     let end = 39 + more;
-    let r = again(&case[17..], &mut out[40..end]);
+    let question = fields::get8(case, 0);
+    let r = written(question, &case[17..], &mut out[40..end]);
     put_reply(out, r);
     end
 }
