@@ -1,4 +1,4 @@
-//! The cases: by a sweep over every byte, length and room of one object of each type, and at random.
+//! The cases: by a sweep over every byte, length and room of one object of each type and of a bundle, and at random.
 use mshelovat_reference::gen::{self, Rng, DAMAGES, FAULTS, LISTED};
 use mshelovat_reference::layout::{occupied, put, u32_at};
 use mshelovat_reference::object::{step, Answer};
@@ -40,6 +40,15 @@ impl Case {
         u32_at(&self.behind, 0)
     }
 
+    fn checks(log: Vec<u8>, behind: Vec<u8>) -> Case {
+        Case {
+            question: 3,
+            number: 0,
+            log,
+            behind,
+        }
+    }
+
     fn reads(log: Vec<u8>, number: u64, wanted: u32) -> Case {
         Case {
             question: 5,
@@ -62,17 +71,17 @@ impl Case {
 /// The cases of a seed, one after the other: every second one from the sweep, while it lasts.
 pub struct Cases {
     rng: Rng,
-    swept: Vec<Vec<u8>>,
+    sweep: std::vec::IntoIter<Case>,
     number: usize,
 }
 
 impl Cases {
     pub fn new(seed: u64) -> Cases {
         let mut rng = Rng(seed);
-        let swept = swept(&mut rng);
+        let sweep = sweep(&mut rng).into_iter();
         Cases {
             rng,
-            swept,
+            sweep,
             number: 0,
         }
     }
@@ -80,29 +89,24 @@ impl Cases {
     pub fn next(&mut self) -> Case {
         let number = self.number;
         self.number += 1;
-        let mut turn = number / 2;
-        if number % 2 == 1 {
-            for object in &self.swept {
-                if turn < sweeps(object) {
-                    return sweep(&mut self.rng, object, turn);
-                }
-                turn -= sweeps(object);
-            }
-        }
-        at_random(&mut self.rng, number)
+        let swept = if number % 2 == 1 {
+            self.sweep.next()
+        } else {
+            None
+        };
+        swept.unwrap_or_else(|| at_random(&mut self.rng, number / 2))
     }
 }
 
-/// A sound object of each size and type: LIN in its three sizes, frames with padding, and a foreign one.
-fn swept(rng: &mut Rng) -> Vec<Vec<u8>> {
-    let kinds = LISTED.iter().chain(&[57, 57, 9_999]);
+/// A sound object of each type and size: LIN in its three sizes, frames with padding, and a foreign one.
+fn one_of_each(rng: &mut Rng) -> Vec<Vec<u8>> {
     let mut objects: Vec<Vec<u8>> = Vec::new();
-    for kind in kinds {
+    for kind in LISTED.iter().chain(&[57, 57, 9_999]) {
         let object = loop {
             let object = gen::object(rng, *kind);
-            let short = object.len() <= 330 && (*kind < 120 || object.len() % 4 == 1);
+            let small = object.len() <= 330 && (*kind < 120 || object.len() % 4 == 1);
             let fresh = |o: &Vec<u8>| u32_at(o, 12) != *kind || o.len() != object.len();
-            if short && objects.iter().all(fresh) {
+            if small && objects.iter().all(fresh) {
                 break object;
             }
         };
@@ -111,47 +115,55 @@ fn swept(rng: &mut Rng) -> Vec<Vec<u8>> {
     objects
 }
 
-/// How many cases the sweep has of an object: it is cut off at every length, each of its bytes and its padding's is
-/// changed, for a read and for a write, and it is written to every room up to a few bytes more than enough.
-fn sweeps(object: &[u8]) -> usize {
-    4 * (object.len().next_multiple_of(4) + 4)
+fn sweep(rng: &mut Rng) -> Vec<Case> {
+    let mut cases = Vec::new();
+    for object in one_of_each(rng) {
+        sweep_reads(rng, &object, &mut cases);
+        sweep_writes(rng, &object, &mut cases);
+    }
+    sweep_bundle(rng, &mut cases);
+    cases
 }
 
-fn sweep(rng: &mut Rng, object: &[u8], turn: usize) -> Case {
+/// An object and its padding, read: cut off at every length, and each byte changed. A foreign one is asked for as one
+/// of the eleven.
+fn sweep_reads(rng: &mut Rng, object: &[u8], cases: &mut Vec<Case>) {
     let kind = u32_at(object, 12);
-    let mut log = gen::padded(object.to_vec());
-    let at = turn / 4;
-    let byte = at.min(log.len() - 1);
-    match turn % 4 {
-        0 => {
-            log.truncate(at);
-            wanted(rng, kind, log)
-        }
-        1 => {
-            log[byte] ^= rng.nonzero();
-            wanted(rng, kind, log)
-        }
-        2 => Case::writes(6, object.to_vec(), at),
-        _ => {
-            let mut bytes = object.to_vec();
-            let byte = byte.min(bytes.len() - 1);
-            // Another type may not allow this size.
-            if !(12..16).contains(&byte) {
-                bytes[byte] ^= rng.nonzero();
-            }
-            Case::writes(6, bytes, log.len() + 4)
+    let wanted = LISTED.contains(&kind).then_some(kind);
+    let log = gen::padded(object.to_vec());
+    for at in 0..log.len() {
+        let mut changed = log.clone();
+        changed[at] ^= rng.nonzero();
+        for log in [log[..at].to_vec(), changed] {
+            cases.push(Case::reads(log, 0, wanted.unwrap_or(rng.pick(&LISTED))));
         }
     }
 }
 
-/// The read of a log's first object; a foreign one is asked for as one of the eleven.
-fn wanted(rng: &mut Rng, kind: u32, log: Vec<u8>) -> Case {
-    let wanted = if LISTED.contains(&kind) {
-        kind
-    } else {
-        rng.pick(&LISTED)
-    };
-    Case::reads(log, 0, wanted)
+/// An object, written: to every room up to a few bytes more than enough, and each byte changed but the type's.
+fn sweep_writes(rng: &mut Rng, object: &[u8], cases: &mut Vec<Case>) {
+    let enough = object.len().next_multiple_of(4);
+    for room in 0..enough + 4 {
+        cases.push(Case::writes(6, object.to_vec(), room));
+    }
+    for at in (0..object.len()).filter(|at| !(12..16).contains(at)) {
+        let mut changed = object.to_vec();
+        changed[at] ^= rng.nonzero();
+        cases.push(Case::writes(6, changed, enough));
+    }
+}
+
+/// Three slips that name six objects, checked: cut off at every length, and each byte changed.
+fn sweep_bundle(rng: &mut Rng, cases: &mut Vec<Case>) {
+    let log = gen::sound_log(rng, 6);
+    let bundle = gen::bundle_bytes(&gen::honest_slips(rng, &log, 3));
+    for at in 0..bundle.len() {
+        let mut changed = bundle.clone();
+        changed[at] ^= rng.nonzero();
+        for behind in [bundle[..at].to_vec(), changed] {
+            cases.push(Case::checks(log.clone(), behind));
+        }
+    }
 }
 
 /// One of the seven questions.
@@ -238,12 +250,7 @@ fn checks(rng: &mut Rng, turn: usize) -> Case {
         _ => gen::any_bundle(rng, &log),
     };
     behind.truncate(LIMIT);
-    Case {
-        question: 3,
-        number: 0,
-        log,
-        behind,
-    }
+    Case::checks(log, behind)
 }
 
 /// A read, mostly of the type that stands there.

@@ -65,34 +65,46 @@ fn show(number: usize, case: &Case, ours: &Told, theirs: &Option<Told>) {
     }
 }
 
-/// What came of the cases: refusals by number, types read and written.
+/// How often each refusal came, and each type was read and written; what else came, by question.
 #[derive(Default)]
-struct Seen(BTreeMap<(&'static str, u64), usize>);
+struct Seen(BTreeMap<&'static str, BTreeMap<u64, usize>>);
 
 impl Seen {
     fn note(&mut self, case: &Case, reply: &Reply) {
-        let what = match (case.question, reply[0]) {
+        let (what, number) = match (case.question, reply[0]) {
             (_, 3) => ("refused", reply[1]),
             (5, 6) => ("read", case.wanted().into()),
             (6, 5) => ("written", u32_at(&case.log, 12).into()),
-            (question, _) => ("not refused to question", question.into()),
+            (question, _) => ("not refused, by question", question.into()),
         };
-        *self.0.entry(what).or_default() += 1;
+        *self.0.entry(what).or_default().entry(number).or_default() += 1;
     }
 
-    /// Prints how often each came; how many that must come did not.
+    /// Prints it; answers how many of those that must come never came.
     fn missing(&self) -> usize {
-        let refusals = (1..=11).chain(20..=27).map(|n| ("refused", n));
-        let types = |what| LISTED.map(|kind| (what, u64::from(kind)));
-        let must = refusals.chain(types("read")).chain(types("written"));
-        let missing: Vec<_> = must.filter(|what| !self.0.contains_key(what)).collect();
-        for ((what, number), times) in &self.0 {
-            println!("{what} {number}: {times} times");
+        for (what, times) in &self.0 {
+            println!("{what}: {times:?}");
         }
-        for (what, number) in &missing {
-            println!("{what} {number}: never");
+        let types = LISTED.map(u64::from);
+        let refusals: Vec<u64> = (1..=11).chain(20..=27).collect();
+        let musts = [
+            ("refused", &refusals[..]),
+            ("read", &types),
+            ("written", &types),
+        ];
+        let mut missing = 0;
+        for (what, numbers) in musts {
+            let came = |number| {
+                self.0
+                    .get(what)
+                    .is_some_and(|times| times.contains_key(number))
+            };
+            for number in numbers.iter().filter(|number| !came(number)) {
+                println!("never {what}: {number}");
+                missing += 1;
+            }
         }
-        missing.len()
+        missing
     }
 }
 
