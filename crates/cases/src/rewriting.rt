@@ -5,7 +5,7 @@ use outcomes::Written;
 ghost use mathlib.Core.Path.{_≡_};
 ghost use Rattle.cases.specs.Again.{writtenReply, Again};
 
-fn written_reply(written: Written) -> Reply
+pub(crate) fn written_reply(written: Written) -> Reply
     ensures { λ r. ⌜ r ≡ writtenReply written ⌝ }
 {
     match written {

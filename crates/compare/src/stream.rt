@@ -1,14 +1,15 @@
 // Cases one after another from an input, and their replies to an output.
+use crate::reading::read;
+use crate::sheet::put_reply;
 use cases::Reply;
 use cases::again;
 use cases::answer;
+use cases::lay;
+use cases::offer;
 ghost use Prim.Native.Nat.{_≤_};
 ghost use mathlib.Core.Path.{_≡_};
-ghost use mathlib.Core.List.{_++_};
 ghost use lib.ListN.{length};
-ghost use Rattle.fields.specs.Written.{Wrote};
 ghost use Rattle.io.specs.Counts.{Counts};
-ghost use Rattle.cases.specs.Replies.{replyBytes};
 ghost use Rattle.cases.specs.Again.{Roomy};
 
 // The most bytes of a log, and of a bundle.
@@ -26,18 +27,6 @@ fn page() -> [u8; 65576]
     ensures { λ r. ⌜ 65576 ≡ length r ⌝ }
 {
     [0; 65576]
-}
-
-// The reply's numbers, each in eight bytes.
-fn put_reply(out: &mut [u8], r: Reply)
-    requires { ⌜ 40 ≤ length (now out) ⌝ }
-    ensures { λ _. ⌜ Wrote 0 (replyBytes r) (now (out .entry)) (now (out .exit)) ⌝ }
-{
-    fields::put64(out, 0, r.word);
-    fields::put64(out, 8, r.first);
-    fields::put64(out, 16, r.second);
-    fields::put64(out, 24, r.third);
-    fields::put64(out, 32, r.next);
 }
 
 // The bytes of the case that a head of 17 bytes opens, at most the buffer's length; 0 where the log or the bundle is above the limit.
@@ -76,14 +65,22 @@ fn next_case(fd: i32, buf: &mut [u8]) -> usize
     n
 }
 
-// The room that a case gives for its log to be written again, and one more; 0 where it asks another question or is none of ours.
-fn rewrite_room(case: &[u8]) -> usize
+// Whether a question asks for a write.
+fn writes(question: u8) -> bool {
+    match question {
+        4 | 6 | 7 => true,
+        _ => false,
+    }
+}
+
+// The room that a case gives for a write, and one more; 0 where it asks another question or is none of ours.
+fn write_room(case: &[u8]) -> usize
     ensures { λ r. ⌜ Roomy (now (case .entry)) r ⌝ }
 {
     if case.len() < 17 {
         return 0;
     }
-    if fields::get8(case, 0) != 4 {
+    if !writes(fields::get8(case, 0)) {
         return 0;
     }
     let room = fields::get64(case, 9) as usize;
@@ -96,21 +93,66 @@ fn rewrite_room(case: &[u8]) -> usize
     room + 1
 }
 
-// Puts the reply to a case to the front of `out`, and behind it, where a log is written again, the bytes of the room; answers where
-// it ends.
+// Writes the bytes to `out`: as a log again, as the object that they are, or as a foreign one.
+fn written(question: u8, bytes: &[u8], out: &mut [u8]) -> Reply {
+    match question {
+        4 => again(bytes, out),
+        6 => lay(bytes, out),
+        _ => offer(bytes, out),
+    }
+}
+
+// Puts the reply to a case to the front of `out`, and behind it, where it asks for a write, the bytes of the room; answers where it
+// ends.
 fn respond(case: &[u8], out: &mut [u8]) -> usize
     requires { ⌜ 65576 ≡ length (now out) ⌝ }
     ensures { λ r. ⌜ (r ≤ length (now (out .exit))) × (65576 ≡ length (now (out .exit))) ⌝ }
 {
-    let more = rewrite_room(case);
+    let more = write_room(case);
     if more == 0 {
         put_reply(out, answer(case));
         return 40;
     }
     let end = 39 + more;
-    let r = again(&case[17..], &mut out[40..end]);
+    let question = fields::get8(case, 0);
+    let r = written(question, &case[17..], &mut out[40..end]);
     put_reply(out, r);
     end
+}
+
+// Room for a record's numbers and its frame.
+fn sheet() -> [u8; 4096]
+    ensures { λ r. ⌜ 4096 ≡ length r ⌝ }
+{
+    [0; 4096]
+}
+
+fn write_record(output: i32, case: &[u8], out: &mut [u8]) -> bool
+    requires { ⌜ 40 ≤ length (now out) ⌝ }
+{
+    let used = read(out, case);
+    io::write_all(output, &out[..used])
+}
+
+// Answers a case that asks for a record, from a sheet of its own; whether the reply was written.
+fn tell_record(output: i32, case: &[u8]) -> bool {
+    let mut space = sheet();
+    write_record(output, case, &mut space)
+}
+
+// Answers a case; whether the reply was written.
+fn tell(output: i32, case: &[u8], out: &mut [u8]) -> bool
+    requires { ⌜ 65576 ≡ length (now out) ⌝ }
+    ensures { λ _. ⌜ 65576 ≡ length (now (out .exit)) ⌝ }
+{
+    if case.len() == 0 {
+        return false;
+    }
+    if fields::get8(case, 0) == 5 {
+        return tell_record(output, case);
+    }
+    let used = respond(case, out);
+    io::write_all(output, &out[..used])
 }
 
 // Answers case after case, until the input ends: at most so many.
@@ -125,8 +167,7 @@ pub fn serve(input: i32, output: i32, most: usize) {
         if n == 0 {
             return;
         }
-        let used = respond(&buf[..n], out);
-        if !io::write_all(output, &out[..used]) {
+        if !tell(output, &buf[..n], out) {
             return;
         }
         done += 1;

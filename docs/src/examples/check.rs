@@ -8,5 +8,8 @@ fn main() {
         exit(2);
     }
     let files: Vec<Option<Vec<u8>>> = names.iter().map(|n| fs::read(n).ok()).collect();
-    print!("{}", mshelovat_reference::programs::desk(files[0].as_deref(), files[1].as_deref()));
+    print!(
+        "{}",
+        mshelovat_reference::programs::desk(files[0].as_deref(), files[1].as_deref())
+    );
 }

@@ -17,9 +17,11 @@ mod records;
 
 pub use bundles::{any_bundle, bundle_bytes, damaged_bundle, honest_bundle, honest_slips};
 pub use bundles::{Fault, Slip, FAULTS};
-pub use logs::{any_log, damaged_log, damaged_log_at, foreign, long_log, object, padded, position};
-pub use logs::{sound_log, Damage, DAMAGES, LISTED};
-pub use records::{any_record, frame, record};
+pub use logs::{
+    an_object, any_log, damaged_log, damaged_log_at, foreign, long_log, object, padded, position,
+};
+pub use logs::{sound_log, twice_damaged_log, Damage, DAMAGES, LISTED};
+pub use records::{any_record, frame, raw_object, record};
 
 /// A tiny xorshift generator. Any seed will do, 0 too.
 #[derive(Clone, Debug)]

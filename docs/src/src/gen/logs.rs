@@ -2,7 +2,7 @@
 
 use super::{frame, record, Rng};
 use crate::layout::*;
-use crate::object::{step, Answer};
+use crate::object::{has_frame, step, Answer};
 use crate::records::write_any;
 
 /// The numbers of the eleven types.
@@ -182,19 +182,25 @@ impl Damage {
         }
     }
 
-    /// Can this very object be damaged so? Only some sizes have padding, and
-    /// only one LIN message has an exact rate.
+    /// Can this very object be damaged so? Only some types have the field, only
+    /// some sizes have padding, and only one LIN message has an exact rate.
     fn fits(self, object: &[u8]) -> bool {
+        let kind = u32_at(object, 12);
         match self {
             Damage::Padding => !object.len().is_multiple_of(4),
-            Damage::ExactRate => object.len() == 184,
+            Damage::WrapSize => row(kind).is_none(),
+            Damage::WrongSize | Damage::HeaderVersion | Damage::Unit => row(kind).is_some(),
+            Damage::Reserved => row(kind).is_some_and(|row| !row.reserved.is_empty()),
+            Damage::StructureLength | Damage::FrameLength => has_frame(kind),
+            Damage::DataCount => kind == kind::FLEXRAY_RECEIVE,
+            Damage::ExactRate => kind == kind::LIN_MESSAGE && object.len() == 184,
             _ => true,
         }
     }
 
-    /// Damages an object (padding included) that starts here in its log.
-    fn befall(self, rng: &mut Rng, piece: &mut [u8], start: usize) {
-        let (size, kind) = (u32_at(piece, 8), u32_at(piece, 12));
+    /// Damages an object (padding included) that starts here in its log. Size
+    /// and type are those it had when it was sound.
+    fn befall(self, rng: &mut Rng, piece: &mut [u8], start: usize, size: u32, kind: u32) {
         match self {
             Damage::Signature => piece[rng.below(4)] ^= rng.nonzero(),
             Damage::SmallSize => put_size(piece, rng.below(16) as u32),
@@ -331,42 +337,68 @@ fn other_kind(rng: &mut Rng, kind: u32) -> u32 {
     rng.pick(&[listed, foreign, sibling, kind | 0x0100_0000])
 }
 
+/// A sound object that this damage can befall, without padding.
+fn victim(rng: &mut Rng, damage: Damage) -> Vec<u8> {
+    loop {
+        let kind = damage.kind(rng);
+        let victim = object(rng, kind);
+        if damage.fits(&victim) {
+            return victim;
+        }
+    }
+}
+
+/// A log of so many objects and a last one, then damaged in these ways; with
+/// the place of the damage: the damaged object's start, or where the log was
+/// cut off, or where the loose end begins.
+fn damaged_by(rng: &mut Rng, count: usize, sound: Vec<u8>, ways: &[Damage]) -> (Vec<u8>, usize) {
+    let before = rng.below(count + 1);
+    let mut log = sound_log(rng, before);
+    let start = log.len();
+    let (size, kind) = (u32_at(&sound, 8), u32_at(&sound, 12));
+    let mut piece = padded(sound);
+    for damage in ways {
+        damage.befall(rng, &mut piece, start, size, kind);
+    }
+    log.extend(piece);
+    log.extend(sound_log(rng, count - before));
+    let mut place = start;
+    if ways.contains(&Damage::LooseEnd) {
+        place = log.len();
+        let loose = rng.from_to(1, 15);
+        log.extend(&object(rng, 3)[..loose]);
+    }
+    if ways.contains(&Damage::CutShort) {
+        log.truncate(rng.below(log.len()));
+        place = log.len();
+    }
+    (log, place)
+}
+
 /// A log of so many objects and one more, damaged in this one way; with the
 /// place of the damage: the damaged object's start, or where the log was cut
 /// off, or where the loose end begins.
 pub fn damaged_log_at(rng: &mut Rng, count: usize, damage: Damage) -> (Vec<u8>, usize) {
-    let before = rng.below(count + 1);
-    let mut log = sound_log(rng, before);
-    let start = log.len();
-    let mut victim = loop {
-        let kind = damage.kind(rng);
-        let victim = object(rng, kind);
-        if damage.fits(&victim) {
-            break padded(victim);
-        }
-    };
-    damage.befall(rng, &mut victim, start);
-    log.extend(victim);
-    log.extend(sound_log(rng, count - before));
-    let length = log.len();
-    match damage {
-        Damage::CutShort => {
-            log.truncate(rng.below(length));
-            let cut = log.len();
-            (log, cut)
-        }
-        Damage::LooseEnd => {
-            let loose = rng.from_to(1, 15);
-            log.extend(&object(rng, 3)[..loose]);
-            (log, length)
-        }
-        _ => (log, start),
-    }
+    let sound = victim(rng, damage);
+    damaged_by(rng, count, sound, &[damage])
 }
 
 /// A log of so many objects and one more, damaged in this one way.
 pub fn damaged_log(rng: &mut Rng, count: usize, damage: Damage) -> Vec<u8> {
     damaged_log_at(rng, count, damage).0
+}
+
+/// A log of so many objects and one more, which is damaged in this way and in
+/// a second one: which refusal comes first?
+pub fn twice_damaged_log(rng: &mut Rng, count: usize, damage: Damage) -> Vec<u8> {
+    let sound = victim(rng, damage);
+    let second = loop {
+        let second = rng.pick(&DAMAGES);
+        if second != damage && second.fits(&sound) {
+            break second;
+        }
+    };
+    damaged_by(rng, count, sound, &[damage, second]).0
 }
 
 /// Any log of about so many objects: sound, damaged in one way or in several,
@@ -412,7 +444,7 @@ pub fn position(rng: &mut Rng, log: &[u8]) -> usize {
 }
 
 /// The start of one of the objects that a walk meets, or of its end.
-fn an_object(rng: &mut Rng, log: &[u8]) -> usize {
+pub fn an_object(rng: &mut Rng, log: &[u8]) -> usize {
     let mut starts = vec![0];
     while let Answer::Object(object) = step(log, starts[starts.len() - 1]) {
         starts.push(object.next);

@@ -1,7 +1,8 @@
 //! Records of every type.
 
 use super::Rng;
-use crate::layout::{kind, FLEXRAY_DATA, FRAME_LIMIT};
+use crate::layout::{kind, put, row, FLEXRAY_DATA, FRAME_LIMIT};
+use crate::object::has_frame;
 use crate::records::*;
 
 /// A frame, 0 to 1,612 bytes; the ends and short ones come often.
@@ -45,6 +46,34 @@ pub fn any_record<'a>(rng: &mut Rng, kind: u32, frame: &'a [u8]) -> Record<'a> {
         spoil_content(rng, &mut any);
     }
     any
+}
+
+/// The bytes of an object whose record may be invalid, with a frame that may be
+/// too long. Half the time what a write must set right is wrong too: signature,
+/// header size and version, object size, reserved bytes and the two lengths.
+pub fn raw_object(rng: &mut Rng, kind: u32) -> Vec<u8> {
+    let mut frame = frame(rng);
+    if rng.once_in(6) {
+        let length = FRAME_LIMIT + rng.pick(&[1, 1, 2, 3, 4, 400]);
+        frame = rng.bytes(length);
+    }
+    let mut object = raw(&any_record(rng, kind, &frame));
+    if rng.once_in(2) {
+        spoil_fixed(rng, &mut object, kind);
+    }
+    object
+}
+
+/// Rubbish over what is no field of the record.
+fn spoil_fixed(rng: &mut Rng, object: &mut [u8], kind: u32) {
+    put(object, 0, &rng.array::<12>());
+    for offset in row(kind).expect("a listed type").reserved {
+        object[*offset] = rng.byte();
+    }
+    if has_frame(kind) {
+        put(object, 32, &rng.array::<2>());
+        put(object, 54, &rng.array::<2>());
+    }
 }
 
 fn head_of<'r>(record: &'r mut Record) -> &'r mut Head {

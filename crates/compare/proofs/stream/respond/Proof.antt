@@ -6,17 +6,22 @@ use borrow.Author.Needs.{needs}
 use Rattle.compare.proofs.stream.respond.Statement.{statement}
 use Rattle.compare.proofs.stream.respond.Tie as tie
 
-sub-again : tie.Need-sub-again
-sub-again c =
-    let h : 17 ≤ length (c .before .before .before .before .args .case .now) = c .before .rewrite-room .ensures .headed (omega arith) in
+get8-requires : tie.Need-get8-requires
+get8-requires c κs =
+    let h : 17 ≤ length (c .before .before .before .before .args .case .now) = c .before .write-room .ensures .headed (omega arith) in
     search needs
 
-part-again-start : tie.Need-part-again-start
-part-again-start c =
-    let h : 17 ≤ length (c .before .before .before .before .args .case .now) = c .before .rewrite-room .ensures .headed (omega arith) in
+sub-written : tie.Need-sub-written
+sub-written c =
+    let h : 17 ≤ length (c .before .before .before .before .before .args .case .now) = c .before .before .write-room .ensures .headed (omega arith) in
+    search needs
+
+part-written-start : tie.Need-part-written-start
+part-written-start c =
+    let h : 17 ≤ length (c .before .before .before .before .before .args .case .now) = c .before .before .write-room .ensures .headed (omega arith) in
     search needs
 
 pub respond-spec : {M : Type 1} → statement M
 respond-spec =
     tie.close
-    (tie.spec (λ c κs. search needs) (λ c κs. search needs) (λ c κs. search needs) (λ c. search needs) (λ c. search needs) (λ c. search needs) sub-again part-again-start (λ c. search needs) (λ c. search needs) (λ c. search needs) (λ c. search needs) (λ c κs. search needs) (λ c κs. search needs) (λ c. search needs) (λ c. search needs))
+    (tie.spec (λ c κs. search needs) (λ c κs. search needs) (λ c κs. search needs) (λ c. search needs) (λ c. search needs) (λ c. search needs) get8-requires sub-written part-written-start (λ c. search needs) (λ c. search needs) (λ c. search needs) (λ c. search needs) (λ c κs. search needs) (λ c κs. search needs) (λ c. search needs) (λ c. search needs))

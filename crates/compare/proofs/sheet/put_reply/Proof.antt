@@ -3,8 +3,8 @@ use mathlib.Core.Path.{refl}
 use Rattle.fields.specs.Digits.{le}
 use Rattle.fields.proofs.Writing.{then}
 use borrow.Author.Needs.{needs}
-use Rattle.compare.proofs.stream.put_reply.Statement.{statement}
-use Rattle.compare.proofs.stream.put_reply.Tie as tie
+use Rattle.compare.proofs.sheet.put_reply.Statement.{statement}
+use Rattle.compare.proofs.sheet.put_reply.Tie as tie
 
 returns : tie.Need-returns
 unfolding le

@@ -1,0 +1,162 @@
+// A sheet: a reply of 40 bytes, and behind it a record's numbers, eight bytes each. What does not fit is left out.
+use cases::Reply;
+use headers::Header;
+use objects::Cursor;
+use outcomes::Told;
+ghost use mathlib.Core.Path.{_≡_};
+ghost use mathlib.Core.List.{_++_};
+ghost use Prim.Native.Nat.{_≤_};
+ghost use lib.ListN.{length};
+ghost use Rattle.fields.specs.Written.{Wrote};
+ghost use Rattle.cases.specs.Replies.{replyBytes};
+
+// Where the numbers begin: behind the reply.
+const FRONT: usize = 40;
+
+// The reply's numbers, each in eight bytes.
+pub fn put_reply(out: &mut [u8], r: Reply)
+    requires { ⌜ 40 ≤ length (now out) ⌝ }
+    ensures { λ _. ⌜ Wrote 0 (replyBytes r) (now (out .entry)) (now (out .exit)) ⌝ }
+{
+    fields::put64(out, 0, r.word);
+    fields::put64(out, 8, r.first);
+    fields::put64(out, 16, r.second);
+    fields::put64(out, 24, r.third);
+    fields::put64(out, 32, r.next);
+}
+
+// Numbers of any width as numbers of 64 bits.
+pub fn wide8(v: u8) -> u64 {
+    v as u64
+}
+
+pub fn wide16(v: u16) -> u64 {
+    v as u64
+}
+
+pub fn wide32(v: u32) -> u64 {
+    v as u64
+}
+
+// Puts a number at a place; answers the place behind it.
+fn put(out: &mut [u8], at: usize, v: u64) -> usize
+    requires { ⌜ at ≤ length (now out) ⌝ }
+    ensures { λ r. ⌜ (r ≤ length (now (out .exit))) × (length (now (out .exit)) ≡ length (now (out .entry))) ⌝ }
+{
+    if out.len() - at < 8 {
+        return at;
+    }
+    fields::put64(out, at, v);
+    at + 8
+}
+
+// Puts numbers one behind the other.
+pub fn put_all(out: &mut [u8], from: usize, values: &[u64]) -> usize
+    requires { ⌜ from ≤ length (now out) ⌝ }
+    ensures { λ r. ⌜ (r ≤ length (now (out .exit))) × (length (now (out .exit)) ≡ length (now (out .entry))) ⌝ }
+{
+    let mut at = from;
+    let mut i = 0;
+    while i < values.len() {
+        at = put(out, at, values[i]);
+        i += 1;
+    }
+    at
+}
+
+// Puts bytes as numbers one behind the other.
+fn put_each(out: &mut [u8], from: usize, values: &[u8]) -> usize
+    requires { ⌜ from ≤ length (now out) ⌝ }
+    ensures { λ r. ⌜ (r ≤ length (now (out .exit))) × (length (now (out .exit)) ≡ length (now (out .entry))) ⌝ }
+{
+    let mut at = from;
+    let mut i = 0;
+    while i < values.len() {
+        at = put(out, at, wide8(values[i]));
+        i += 1;
+    }
+    at
+}
+
+// Arrays, element by element.
+pub fn put8x8(out: &mut [u8], from: usize, v: [u8; 8]) -> usize
+    requires { ⌜ from ≤ length (now out) ⌝ }
+    ensures { λ r. ⌜ (r ≤ length (now (out .exit))) × (length (now (out .exit)) ≡ length (now (out .entry))) ⌝ }
+{
+    put_each(out, from, &v)
+}
+
+pub fn put8x254(out: &mut [u8], from: usize, v: [u8; 254]) -> usize
+    requires { ⌜ from ≤ length (now out) ⌝ }
+    ensures { λ r. ⌜ (r ≤ length (now (out .exit))) × (length (now (out .exit)) ≡ length (now (out .entry))) ⌝ }
+{
+    put_each(out, from, &v)
+}
+
+pub fn put64x9(out: &mut [u8], from: usize, v: [u64; 9]) -> usize
+    requires { ⌜ from ≤ length (now out) ⌝ }
+    ensures { λ r. ⌜ (r ≤ length (now (out .exit))) × (length (now (out .exit)) ≡ length (now (out .entry))) ⌝ }
+{
+    put_all(out, from, &v)
+}
+
+// Puts bytes as they are.
+pub fn put_run(out: &mut [u8], from: usize, bytes: &[u8]) -> usize
+    requires { ⌜ from ≤ length (now out) ⌝ }
+    ensures { λ r. ⌜ (r ≤ length (now (out .exit))) × (length (now (out .exit)) ≡ length (now (out .entry))) ⌝ }
+{
+    if out.len() - from < bytes.len() {
+        return from;
+    }
+    fields::put_bytes(out, from, bytes);
+    from + bytes.len()
+}
+
+// Puts the numbers of a header, the first of every record.
+pub fn put_header(out: &mut [u8], h: Header) -> usize
+    requires { ⌜ 40 ≤ length (now out) ⌝ }
+    ensures { λ r. ⌜ (r ≤ length (now (out .exit))) × (length (now (out .exit)) ≡ length (now (out .entry))) ⌝ }
+{
+    let values = [h.unit as u64, h.client as u64, h.version as u64, h.stamp];
+    put_all(out, FRONT, &values)
+}
+
+fn reply(word: u64, first: u64, second: u64, next: u64) -> Reply {
+    Reply {
+        word,
+        first,
+        second,
+        third: 0,
+        next,
+    }
+}
+
+// Puts the reply to what a read was told: a record whose numbers end at `end`, with the bytes of its frame behind it, or none.
+// Answers where all ends.
+pub fn close(out: &mut [u8], told: Told, next: Cursor, end: usize, frame: &[u8]) -> usize
+    requires { ⌜ (40 ≤ length (now out)) × (end ≤ length (now out)) ⌝ }
+    ensures { λ r. ⌜ (r ≤ length (now (out .exit))) × (length (now (out .exit)) ≡ length (now (out .entry))) ⌝ }
+{
+    let to = next.at as u64;
+    match told {
+        Told::Record => {
+            put_reply(out, reply(6, end as u64, frame.len() as u64, to));
+            return put_run(out, end, frame);
+        }
+        Told::Other => put_reply(out, reply(7, 0, 0, to)),
+        Told::Done => put_reply(out, reply(2, 0, 0, to)),
+        Told::Refused { number, place } => {
+            put_reply(out, reply(3, number as u64, place as u64, to));
+        }
+    }
+    40
+}
+
+// The reply to what is no case of ours: zeros.
+pub fn none(out: &mut [u8]) -> usize
+    requires { ⌜ 40 ≤ length (now out) ⌝ }
+    ensures { λ r. ⌜ (r ≤ length (now (out .exit))) × (length (now (out .exit)) ≡ length (now (out .entry))) ⌝ }
+{
+    put_reply(out, reply(0, 0, 0, 0));
+    40
+}
