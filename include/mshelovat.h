@@ -1,12 +1,15 @@
-/* Mshelovat for C: the calls of the proved crate `exported`, linked from libexported.a (`rt staticlib exported`, x86-64).
+/* Mshelovat for C: the calls of the proved crate `exported`, linked from libexported.a (`rt staticlib exported`). The
+ * archive is x86-64 and does not link into native programs on Arm.
  *
  * Each call returns a number and writes its values to the front of the numbers lent to it; what stands behind them stays
- * as it was. Numbers: 0 is yes; 1 to 9 refuse the log and 20 to 28 the slips, as document 01 lists them;
- * MSHELOVAT_ROOM says that too few numbers were lent: then nothing is written; MSHELOVAT_DONE is the log's end.
+ * as it was, and so it is with lent bytes and entries. Numbers: 0 is yes; 1 to 9 refuse the log, 7, 9, 10 and 11 a write
+ * and 20 to 28 the slips, as document 01 lists them; MSHELOVAT_ROOM says that too few numbers were lent, or too few bytes:
+ * where too few numbers, nothing is written; MSHELOVAT_DONE is the log's end, MSHELOVAT_OTHER an object of another type.
  *
- * No call asks for more than what C itself asks: a pointer is not null and its bytes are readable (the lent numbers
- * writable) for the call's time, also where the length is 0; lent numbers stand on 8 bytes, and lie apart from log and bundle.
- * No call keeps a pointer, allocates, or writes anything but the lent numbers. */
+ * No call asks for more than what C itself asks: a pointer is not null and its bytes are readable (what is lent to be
+ * written, writable) for the call's time, also where the length is 0; lent numbers and entries stand on 8 bytes; and what
+ * a call writes lies apart from all else that is handed to it. No call keeps a pointer, allocates, or writes anything but
+ * what is lent for it. */
 #ifndef MSHELOVAT_H
 #define MSHELOVAT_H
 
@@ -15,9 +18,13 @@
 
 #define MSHELOVAT_ROOM 10
 #define MSHELOVAT_DONE 100
+#define MSHELOVAT_OTHER 101
 
 /* The places of mshelovat_step's values. */
 enum { MSHELOVAT_START, MSHELOVAT_SIZE, MSHELOVAT_KIND, MSHELOVAT_NEXT, MSHELOVAT_STEP };
+
+/* How many numbers an entry of mshelovat_list has, in the same order: start, size, type. */
+enum { MSHELOVAT_ENTRY = 3 };
 
 #ifdef __cplusplus
 extern "C" {
@@ -33,11 +40,39 @@ uint32_t mshelovat_walk(const uint8_t *log, size_t log_length, uint64_t *out, si
  * 1 to 9: the object is refused; out is its place, 0, 0, at. */
 uint32_t mshelovat_step(const uint8_t *log, size_t log_length, size_t at, uint64_t *out, size_t out_count);
 
+/* The objects from position `at` on, three numbers each: start, size without padding, type. `entries_count` counts
+ * numbers; one or two behind the last whole entry are left alone. Lend two numbers in out: how many objects were listed,
+ * and the position where the next call goes on.
+ * 0: there is no room for another object, whether or not one is there.
+ * MSHELOVAT_DONE: all objects up to the log's end are listed.
+ * 1 to 9: the object at the position, out[1], is refused; those before it are listed. */
+uint32_t mshelovat_list(const uint8_t *log, size_t log_length, size_t at, uint64_t *entries, size_t entries_count,
+                        uint64_t *out, size_t out_count);
+
 /* Whether the slips of the bundle name the objects of the log, each exactly once. Returns 0 and out[0] is the count of
  * objects; or 28, 20 to 24, 1 to 9, 25 to 27, and out[0] is the place: in the bundle for 20 to 24, else in the log.
  * Lend one number. */
 uint32_t mshelovat_check(const uint8_t *log, size_t log_length, const uint8_t *bundle, size_t bundle_length,
                          uint64_t *out, size_t out_count);
+
+/* The object of type `kind` at position `at`, copied to the front of `bytes` without its padding, in the layout of the
+ * type's document. Lend two numbers.
+ * 0: out is its size and the position behind its padding.
+ * MSHELOVAT_OTHER: an object of another type was let through; out is 0 and the position behind its padding.
+ * MSHELOVAT_DONE: `at` is exactly the log's end; out is 0 and at.
+ * 1 to 9: the object is refused; out is its place and at.
+ * MSHELOVAT_ROOM: fewer than two numbers, or `bytes` is shorter than the object; nothing is written to either. */
+uint32_t mshelovat_read(const uint8_t *log, size_t log_length, size_t at, uint32_t kind, uint8_t *bytes,
+                        size_t bytes_length, uint64_t *out, size_t out_count);
+
+/* Writes an object, handed in as its bytes without padding, with its padding to the front of `bytes`: one of the eleven
+ * types as its record, any other as foreign. Of the eleven only what the record holds is taken from the object, zeros
+ * where it is too short: signature, sizes and reserved bytes are written as the layout has them. Lend one number.
+ * 0: out[0] is how many bytes were used, padding included.
+ * 7 or 9: the record is refused; 11: the bytes are no foreign object; 10: `bytes` has no room; out[0] is 0, and `bytes`
+ * is as it was. Where no number is lent the answer is 10 too, and nothing is written. */
+uint32_t mshelovat_write(const uint8_t *object, size_t object_length, uint8_t *bytes, size_t bytes_length, uint64_t *out,
+                         size_t out_count);
 
 #ifdef __cplusplus
 }

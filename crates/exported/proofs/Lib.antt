@@ -1,3 +1,4 @@
 pub mod Lending
 pub mod Recording
 pub mod Entering
+pub mod ListExact

@@ -1,94 +1,134 @@
-//! Times the proved walk and check beside the independent reader, on 64 MiB. `docs/speed` builds and runs it: it needs the
-//! archive of `exported` for this processor, which `docs/native-object` makes.
+//! Compares the proved calls with the independent reader, and times walk and check beside it, on 64 MiB. `docs/speed`
+//! builds and runs it: it needs the archive of `exported` for this processor, which `docs/native-object` makes.
 
 mod timed {
     use mshelovat_reference::gen::{self, Rng};
-    use mshelovat_reference::layout::Refusal;
-    use mshelovat_reference::{object, slips};
+    use mshelovat_reference::layout::{self, Refusal};
+    use mshelovat_reference::library::{self, End, Read};
+    use mshelovat_reference::object::{self, Answer};
+    use mshelovat_reference::{records, slips};
     use std::hint::black_box;
     use std::time::Instant;
 
-    // The calls of include/mshelovat.h.
-    #[link(name = "exported", kind = "static")]
-    extern "C" {
-        fn mshelovat_walk(log: *const u8, n: usize, out: *mut u64, m: usize) -> u32;
-        fn mshelovat_step(log: *const u8, n: usize, at: usize, out: *mut u64, m: usize) -> u32;
-        fn mshelovat_check(
-            log: *const u8,
-            n: usize,
-            bundle: *const u8,
-            k: usize,
-            out: *mut u64,
-            m: usize,
-        ) -> u32;
-    }
-
-    fn told(number: u32, value: u64) -> Result<usize, Refusal> {
-        match number {
-            0 => Ok(value as usize),
-            n => Err(Refusal::new(n as u8, value as usize)),
-        }
-    }
-
-    fn proved_walk(log: &[u8]) -> Result<usize, Refusal> {
-        let mut out = [0u64; 1];
-        // Safe: log and out are slices, apart from each other; the call asks for nothing more.
-        let number = unsafe { mshelovat_walk(log.as_ptr(), log.len(), out.as_mut_ptr(), 1) };
-        told(number, out[0])
-    }
-
-    fn proved_check(log: &[u8], bundle: &[u8]) -> Result<usize, Refusal> {
-        let mut out = [0u64; 1];
-        let (log, n, b, k) = (log.as_ptr(), log.len(), bundle.as_ptr(), bundle.len());
-        // Safe: as above.
-        let number = unsafe { mshelovat_check(log, n, b, k, out.as_mut_ptr(), 1) };
-        told(number, out[0])
-    }
-
-    fn proved_step(log: &[u8], at: usize) -> (u32, [u64; 4]) {
-        let mut out = [0u64; 4];
-        // Safe: as above.
-        let number = unsafe { mshelovat_step(log.as_ptr(), log.len(), at, out.as_mut_ptr(), 4) };
-        (number, out)
-    }
-
-    fn plain_step(log: &[u8], at: usize) -> (u32, [u64; 4]) {
-        let on = at as u64;
-        match object::step(log, at) {
-            object::Answer::Object(o) => {
-                let values = [o.start as u64, o.size.into(), o.kind.into(), o.next as u64];
-                (0, values)
+    /// The list of the objects from a position on, by the independent reader.
+    fn plain_list(log: &[u8], mut at: usize, entries: &mut [[u64; 3]]) -> library::Listed {
+        let mut count = 0;
+        let end = loop {
+            if count == entries.len() {
+                break End::Full;
             }
-            object::Answer::Done => (100, [on, 0, 0, on]),
-            object::Answer::Refused(r) => (r.number.into(), [r.place as u64, 0, 0, on]),
+            match object::step(log, at) {
+                Answer::Object(o) => {
+                    entries[count] = [o.start as u64, o.size.into(), o.kind.into()];
+                    (count, at) = (count + 1, o.next);
+                }
+                Answer::Done => break End::Done,
+                Answer::Refused(r) => break End::Refused(r.number),
+            }
+        };
+        library::Listed { count, at, end }
+    }
+
+    /// The object of a type at a position, by the independent reader.
+    fn plain_read(log: &[u8], at: usize, kind: u32, bytes: &mut [u8]) -> Read {
+        match object::step(log, at) {
+            Answer::Object(o) if o.kind != kind => Read::Other { next: o.next },
+            Answer::Object(o) => match bytes.get_mut(..o.size as usize) {
+                None => Read::Room,
+                Some(front) => {
+                    front.copy_from_slice(o.bytes(log));
+                    let (size, next) = (front.len(), o.next);
+                    Read::Object { size, next }
+                }
+            },
+            Answer::Done => Read::Done,
+            Answer::Refused(r) => Read::Refused(r),
         }
     }
 
-    /// The two agree on logs and bundles, sound and damaged; and 10 is told where nothing is lent.
+    /// An object's bytes written as its record, by the independent reader.
+    fn plain_write(bytes: &[u8], out: &mut [u8]) -> Result<usize, Refusal> {
+        let (start, next) = (0, bytes.len());
+        let (size, kind) = (next as u32, layout::u32_at(bytes, 12));
+        let object = object::Object {
+            start,
+            size,
+            kind,
+            next,
+        };
+        records::write_any(&records::record_of(bytes, &object), out)
+    }
+
+    /// An object, now and then with a few bytes changed, but those of its type.
+    fn offered(rng: &mut Rng) -> Vec<u8> {
+        let kind = rng.pick(&gen::LISTED);
+        let mut object = match rng.below(6) {
+            0 => gen::foreign(rng),
+            _ => gen::object(rng, kind),
+        };
+        for _ in 0..rng.below(3) {
+            let at = rng.below(object.len());
+            if !(12..16).contains(&at) {
+                object[at] = rng.byte();
+            }
+        }
+        object
+    }
+
+    /// A call on a slice of one value: the answer, and the slice afterwards.
+    fn lent<T: Copy, R>(fill: T, n: usize, call: impl Fn(&mut [T]) -> R) -> (R, Vec<T>) {
+        let mut slice = vec![fill; n];
+        (call(&mut slice), slice)
+    }
+
+    /// The two agree on the list from a position on, and on the object there.
+    fn agree_at(rng: &mut Rng, log: &[u8], at: usize) {
+        let n = rng.below(8);
+        assert_eq!(
+            lent([7; 3], n, |e| library::list(log, at, e)),
+            lent([7; 3], n, |e| plain_list(log, at, e))
+        );
+        let (kind, n) = (rng.pick(&gen::LISTED), rng.pick(&[0, 47, 48, 2_000]));
+        let kind = match object::step(log, at) {
+            Answer::Object(o) if rng.below(4) != 0 => o.kind,
+            _ => kind,
+        };
+        assert_eq!(
+            lent(7, n, |b| library::read(log, at, kind, b)),
+            lent(7, n, |b| plain_read(log, at, kind, b))
+        );
+    }
+
+    /// The two agree on the writing of an object; gives the number.
+    fn agree_write(rng: &mut Rng) -> u8 {
+        let object = offered(rng);
+        let n = object.len() + rng.below(6);
+        let plain = lent(7, n, |b| plain_write(&object, b));
+        assert_eq!(lent(7, n, |b| library::write(&object, b)), plain);
+        plain.0.map_or_else(|r| r.number, |_| 0)
+    }
+
+    /// The two agree on logs, bundles and objects, sound and damaged.
     fn agree(cases: usize) {
         let rng = &mut Rng(29);
-        let mut met = std::collections::BTreeSet::new();
+        let mut checked = std::collections::BTreeSet::new();
+        let mut written = std::collections::BTreeSet::new();
         for _ in 0..cases {
             let count = rng.below(7);
             let log = gen::any_log(rng, count);
             let bundle = gen::any_bundle(rng, &log);
             let at = gen::position(rng, &log);
             let plain = slips::check(&log, &bundle);
-            assert_eq!(proved_walk(&log), object::walk(&log));
-            assert_eq!(proved_step(&log, at), plain_step(&log, at));
-            assert_eq!(proved_check(&log, &bundle), plain);
-            met.insert(plain.map_or_else(|r| r.number, |_| 0));
+            assert_eq!(library::walk(&log), object::walk(&log));
+            assert_eq!(library::step(&log, at), object::step(&log, at));
+            assert_eq!(library::check(&log, &bundle), plain);
+            checked.insert(plain.map_or_else(|r| r.number, |_| 0));
+            agree_at(rng, &log, 0);
+            agree_at(rng, &log, at);
+            written.insert(agree_write(rng));
         }
-        let mut none: [u64; 3] = [7; 3];
-        let (p, out) = ([0u8; 1].as_ptr(), none.as_mut_ptr());
-        // Safe: the slices are empty, or three numbers long.
-        let numbers = unsafe {
-            let walk = mshelovat_walk(p, 0, out, 0);
-            let step = mshelovat_step(p, 0, 0, out, 3);
-            [walk, step, mshelovat_check(p, 0, p, 0, out, 0)]
-        };
-        assert_eq!((numbers, none), ([10; 3], [7; 3]));
-        println!("{cases} logs and bundles: the same answers; numbers of the check {met:?}\n");
+        println!("{cases} logs, bundles and objects: the same answers");
+        println!("numbers of the check {checked:?}, of the write {written:?}\n");
     }
 
     const LOG: usize = 64 << 20;
@@ -187,17 +227,17 @@ mod timed {
         let log = log_of(pieces, &mut Rng(17));
         let (one, eight) = (bundle_of(&log, 1), bundle_of(&log, 8));
         let objects = object::walk(&log);
-        assert_eq!(proved_walk(&log), objects);
+        assert_eq!(library::walk(&log), objects);
         for bundle in [&one, &eight] {
-            assert_eq!(proved_check(&log, bundle), objects);
+            assert_eq!(library::check(&log, bundle), objects);
             assert_eq!(slips::check(&log, bundle), objects);
         }
         let t = best([
-            &|| count(proved_walk(black_box(&log))),
+            &|| count(library::walk(black_box(&log))),
             &|| count(object::walk(black_box(&log))),
-            &|| count(proved_check(black_box(&log), &eight)),
+            &|| count(library::check(black_box(&log), &eight)),
             &|| count(slips::check(black_box(&log), &eight)),
-            &|| count(proved_check(black_box(&log), &one)),
+            &|| count(library::check(black_box(&log), &one)),
             &|| count(slips::check(black_box(&log), &one)),
             &|| read(black_box(&log)),
         ]);

@@ -9,12 +9,17 @@
 //! * [`slips`]: the check of a bundle against a log
 //! * [`programs`]: what the lister and the desk program print
 //! * [`gen`]: a seeded generator of logs, records and bundles
+//! * `library`: the proved library itself, called; with the feature `speed`
 
-#![forbid(unsafe_code)]
+#![cfg_attr(not(feature = "speed"), forbid(unsafe_code))]
+#![deny(unsafe_code)]
 #![warn(missing_docs)]
 
 pub mod gen;
 pub mod layout;
+#[cfg(feature = "speed")]
+#[allow(unsafe_code)]
+pub mod library;
 pub mod object;
 pub mod programs;
 pub mod records;

@@ -1,7 +1,5 @@
 -- `exported::enter` meets its contract: a store keeps the length, so all three places are there. Assumes nothing.
-use Prim.Native.Nat.{_+_}
-use lib.ListN.{set}
-use lib.Seq.{lt-length-set}
+use lib.ListN.{length-set}
 use native.Mathlib.Omega.{arith}
 use borrow.Author.Needs.{needs}
 use Rattle.exported.proofs.Entering.{entered}
@@ -9,10 +7,10 @@ use Rattle.exported.proofs.list.enter.Statement.{statement}
 use Rattle.exported.proofs.list.enter.Tie as tie
 
 slice-write-entries-2 : tie.Need-slice-write-entries-2
-slice-write-entries-2 c = lt-length-set (c .args .entries .now) (c .args .i) (c .args .start) (omega (arith, c .pre))
+slice-write-entries-2 c = rw length-set (omega (arith, c .pre))
 
 slice-write-entries-3 : tie.Need-slice-write-entries-3
-slice-write-entries-3 c = lt-length-set (set (c .args .entries .now) (c .args .i) (c .args .start)) (c .args .i + 1) (c .args .size) (lt-length-set (c .args .entries .now) (c .args .i) (c .args .start) (omega (arith, c .pre)))
+slice-write-entries-3 c = rw (length-set, length-set) (omega (arith, c .pre))
 
 returns : tie.Need-returns
 returns c = entered (c .args .entries .now) (c .args .i) (c .args .start) (c .args .size) (c .args .kind)

@@ -1,0 +1,228 @@
+//! The proved library, called from Rust: a safe function on slices for each
+//! call of include/mshelovat.h. Nothing here is proved; it only lends slices
+//! and names the numbers that come back.
+//!
+//! It is there with the feature `speed` alone, since it asks for the archive
+//! of crate `exported`. The one that `rt staticlib exported` makes
+//! (target/staticlib/libexported.a) is x86-64 and does not link into native
+//! programs on Arm; there docs/native-object makes one to measure with.
+
+use crate::layout::Refusal;
+use crate::object::{Answer, Object};
+
+#[link(name = "exported", kind = "static")]
+extern "C" {
+    fn mshelovat_walk(log: *const u8, n: usize, out: *mut u64, m: usize) -> u32;
+    fn mshelovat_step(log: *const u8, n: usize, at: usize, out: *mut u64, m: usize) -> u32;
+    fn mshelovat_list(
+        log: *const u8,
+        n: usize,
+        at: usize,
+        entries: *mut u64,
+        k: usize,
+        out: *mut u64,
+        m: usize,
+    ) -> u32;
+    fn mshelovat_check(
+        log: *const u8,
+        n: usize,
+        bundle: *const u8,
+        k: usize,
+        out: *mut u64,
+        m: usize,
+    ) -> u32;
+    fn mshelovat_read(
+        log: *const u8,
+        n: usize,
+        at: usize,
+        kind: u32,
+        bytes: *mut u8,
+        k: usize,
+        out: *mut u64,
+        m: usize,
+    ) -> u32;
+    fn mshelovat_write(
+        object: *const u8,
+        n: usize,
+        bytes: *mut u8,
+        k: usize,
+        out: *mut u64,
+        m: usize,
+    ) -> u32;
+}
+
+/// No room, as [`read`] tells it.
+const ROOM: u32 = 10;
+
+/// The position is exactly the end of the log.
+const DONE: u32 = 100;
+
+/// An object of another type was let through.
+const OTHER: u32 = 101;
+
+fn refusal(number: u32, place: u64) -> Refusal {
+    Refusal::new(number as u8, place as usize)
+}
+
+fn told(number: u32, value: u64) -> Result<usize, Refusal> {
+    match number {
+        0 => Ok(value as usize),
+        n => Err(refusal(n, value)),
+    }
+}
+
+/// The count of objects in the log, or the first refusal.
+pub fn walk(log: &[u8]) -> Result<usize, Refusal> {
+    let mut out = [0u64; 1];
+    // Safe: log and out are slices, apart from each other; the call asks for nothing more.
+    let number = unsafe { mshelovat_walk(log.as_ptr(), log.len(), out.as_mut_ptr(), 1) };
+    told(number, out[0])
+}
+
+/// The next object at a position, which may be any number.
+pub fn step(log: &[u8], at: usize) -> Answer {
+    let mut out = [0u64; 4];
+    // Safe: as in `walk`.
+    let number = unsafe { mshelovat_step(log.as_ptr(), log.len(), at, out.as_mut_ptr(), 4) };
+    match number {
+        0 => Answer::Object(Object {
+            start: out[0] as usize,
+            size: out[1] as u32,
+            kind: out[2] as u32,
+            next: out[3] as usize,
+        }),
+        DONE => Answer::Done,
+        n => Answer::Refused(refusal(n, out[0])),
+    }
+}
+
+/// Why a list ended.
+#[derive(Clone, Copy, Debug, PartialEq, Eq)]
+pub enum End {
+    /// There was no room for another object.
+    Full,
+    /// The log's end.
+    Done,
+    /// An object was refused by this number, at the position.
+    Refused(u8),
+}
+
+/// What a list gives beside the entries.
+#[derive(Clone, Copy, Debug, PartialEq, Eq)]
+pub struct Listed {
+    /// How many objects were listed.
+    pub count: usize,
+    /// Where the next call goes on.
+    pub at: usize,
+    /// Why it ended.
+    pub end: End,
+}
+
+/// Lists objects from a position on: start, size and type of each.
+pub fn list(log: &[u8], at: usize, entries: &mut [[u64; 3]]) -> Listed {
+    let mut out = [0u64; 2];
+    let numbers = entries.as_flattened_mut();
+    let (p, k) = (numbers.as_mut_ptr(), numbers.len());
+    // Safe: as in `walk`, with one slice more that is lent to the call alone.
+    let number = unsafe { mshelovat_list(log.as_ptr(), log.len(), at, p, k, out.as_mut_ptr(), 2) };
+    Listed {
+        count: out[0] as usize,
+        at: out[1] as usize,
+        end: match number {
+            0 => End::Full,
+            DONE => End::Done,
+            n => End::Refused(n as u8),
+        },
+    }
+}
+
+/// The count of objects where the bundle names each exactly once, or the first refusal.
+pub fn check(log: &[u8], bundle: &[u8]) -> Result<usize, Refusal> {
+    let mut out = [0u64; 1];
+    let (log, n, b, k) = (log.as_ptr(), log.len(), bundle.as_ptr(), bundle.len());
+    // Safe: as in `walk`.
+    let number = unsafe { mshelovat_check(log, n, b, k, out.as_mut_ptr(), 1) };
+    told(number, out[0])
+}
+
+/// What a read of one type is told.
+#[derive(Clone, Copy, Debug, PartialEq, Eq)]
+pub enum Read {
+    /// The object stands at the front of the bytes.
+    Object {
+        /// Its size without the padding.
+        size: usize,
+        /// The position behind its padding.
+        next: usize,
+    },
+    /// An object of another type was let through.
+    Other {
+        /// The position behind its padding.
+        next: usize,
+    },
+    /// The position is exactly the end of the log.
+    Done,
+    /// The bytes have no room for the object; nothing was written.
+    Room,
+    /// A refusal, 1 to 9.
+    Refused(Refusal),
+}
+
+/// The object of a type at a position, copied to the front of the bytes without its padding.
+pub fn read(log: &[u8], at: usize, kind: u32, bytes: &mut [u8]) -> Read {
+    let mut out = [0u64; 2];
+    let (p, k) = (bytes.as_mut_ptr(), bytes.len());
+    // Safe: as in `list`.
+    let number =
+        unsafe { mshelovat_read(log.as_ptr(), log.len(), at, kind, p, k, out.as_mut_ptr(), 2) };
+    let next = out[1] as usize;
+    match number {
+        0 => Read::Object {
+            size: out[0] as usize,
+            next,
+        },
+        OTHER => Read::Other { next },
+        DONE => Read::Done,
+        ROOM => Read::Room,
+        n => Read::Refused(refusal(n, out[0])),
+    }
+}
+
+/// Writes an object, handed in as its bytes without padding, with its padding to the front of
+/// the bytes: how many were used; or 7, 9, 10, 11.
+pub fn write(object: &[u8], bytes: &mut [u8]) -> Result<usize, Refusal> {
+    let mut out = [0u64; 1];
+    let (p, k) = (bytes.as_mut_ptr(), bytes.len());
+    // Safe: as in `list`.
+    let number =
+        unsafe { mshelovat_write(object.as_ptr(), object.len(), p, k, out.as_mut_ptr(), 1) };
+    told(number, out[0])
+}
+
+#[cfg(test)]
+mod tests {
+    use super::*;
+
+    /// Too few numbers lent: 10, and nothing is written.
+    #[test]
+    fn too_few_lent() {
+        let mut out = [7u64; 3];
+        let mut bytes = [7u8; 16];
+        let mut entries = [7u64; 3];
+        let log = include_bytes!("library.rs").as_ptr();
+        let (o, b, e) = (out.as_mut_ptr(), bytes.as_mut_ptr(), entries.as_mut_ptr());
+        // Safe: each pointer is to as many values as its count says, or more.
+        let numbers = unsafe {
+            [
+                mshelovat_walk(log, 0, o, 0),
+                mshelovat_step(log, 0, 0, o, 3),
+                mshelovat_list(log, 0, 0, e, 3, o, 1),
+                mshelovat_check(log, 0, log, 0, o, 0),
+                mshelovat_read(log, 0, 0, 3, b, 16, o, 1),
+                mshelovat_write(log, 16, b, 16, o, 0),
+            ]
+        };
+        assert_eq!(numbers, [10; 6]);
+        assert_eq!((out, bytes, entries), ([7; 3], [7; 16], [7; 3]));
+    }
+}
