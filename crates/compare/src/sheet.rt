@@ -121,6 +121,7 @@ pub fn put_header(out: &mut [u8], h: Header) -> usize
     put_all(out, FRONT, &values)
 }
 
+// A reply whose fourth number is 0.
 fn reply(word: u64, first: u64, second: u64, next: u64) -> Reply {
     Reply {
         word,
@@ -131,8 +132,8 @@ fn reply(word: u64, first: u64, second: u64, next: u64) -> Reply {
     }
 }
 
-// Puts the reply to what a read was told: a record whose numbers end at `end`, with the bytes of its frame behind it, or none.
-// Answers where all ends.
+// Puts the reply to what a read was told: 6 and where the record's numbers end, with the bytes of its frame behind it; 7 for an object of
+// another type; 2 at the log's end; 3 and the refusal. Answers where all ends.
 pub fn close(out: &mut [u8], told: Told, next: Cursor, end: usize, frame: &[u8]) -> usize
     requires { ⌜ (40 ≤ length (now out)) × (end ≤ length (now out)) ⌝ }
     ensures { λ r. ⌜ (r ≤ length (now (out .exit))) × (length (now (out .exit)) ≡ length (now (out .entry))) ⌝ }

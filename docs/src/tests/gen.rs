@@ -104,3 +104,17 @@ fn positions_reach_everywhere() {
     }
     assert!(objects > 100 && done > 100 && past > 100);
 }
+
+/// A FlexRay object has every field that 2 to 9 look at, and padding.
+#[test]
+fn of_two_damages_the_smaller_number_shows() {
+    let mut rng = Rng(46);
+    let mut met = [0; 10];
+    for _ in 0..2_000 {
+        let log = gen::twice_damaged_log(&mut rng, 0, gen::Damage::DataCount);
+        if let Err(refusal) = walk(&log) {
+            met[refusal.number as usize] += 1;
+        }
+    }
+    assert!(met[2..].iter().all(|times| *times > 0), "{met:?}");
+}

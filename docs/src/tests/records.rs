@@ -408,3 +408,37 @@ fn rewrite_keeps_the_log_or_changes_nothing() {
         }
     }
 }
+
+#[test]
+fn raw_bytes_and_their_record() {
+    let mut rng = Rng(47);
+    for round in 0..200 {
+        for kind in gen::LISTED {
+            let frame = vec![7; round * 9];
+            let any = gen::any_record(&mut rng, kind, &frame);
+            let bytes = raw(&any);
+            assert_eq!(record_in(kind, &bytes), any);
+            let mut out = vec![0; 2_048];
+            if let Ok(used) = write_any(&any, &mut out) {
+                assert_eq!(gen::padded(bytes), out[..used], "type {kind}");
+            }
+        }
+    }
+}
+
+#[test]
+fn raw_objects_have_every_fault_of_a_write() {
+    let mut rng = Rng(48);
+    let mut met = [0; 12];
+    for _ in 0..200 {
+        for kind in gen::LISTED {
+            let object = gen::raw_object(&mut rng, kind);
+            let written = write_any(&record_in(kind, &object), &mut [0; 1_000]);
+            met[written.map_or_else(|refusal| refusal.number.into(), |_| 0)] += 1;
+        }
+    }
+    assert!(
+        [0, 7, 9, 10].iter().all(|number| met[*number] > 0),
+        "{met:?}"
+    );
+}

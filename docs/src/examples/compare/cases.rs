@@ -100,25 +100,31 @@ impl Cases {
 
 /// A sound object of each type and size: LIN in its three sizes, frames with padding, and a foreign one.
 fn one_of_each(rng: &mut Rng) -> Vec<Vec<u8>> {
-    let mut objects: Vec<Vec<u8>> = Vec::new();
+    let mut objects = Vec::new();
     for kind in LISTED.iter().chain(&[57, 57, 9_999]) {
-        let object = loop {
-            let object = gen::object(rng, *kind);
-            let small = object.len() <= 330 && (*kind < 120 || object.len() % 4 == 1);
-            let fresh = |o: &Vec<u8>| u32_at(o, 12) != *kind || o.len() != object.len();
-            if small && objects.iter().all(fresh) {
-                break object;
-            }
-        };
+        let object = another(rng, *kind, &objects);
         objects.push(object);
     }
     objects
+}
+
+/// A small sound object of a type, of another size than those that are there.
+fn another(rng: &mut Rng, kind: u32, objects: &[Vec<u8>]) -> Vec<u8> {
+    loop {
+        let object = gen::object(rng, kind);
+        let small = object.len() <= 330 && (kind < 120 || object.len() % 4 == 1);
+        let there = |o: &Vec<u8>| u32_at(o, 12) == kind && o.len() == object.len();
+        if small && !objects.iter().any(there) {
+            return object;
+        }
+    }
 }
 
 fn sweep(rng: &mut Rng) -> Vec<Case> {
     let mut cases = Vec::new();
     for object in one_of_each(rng) {
         sweep_reads(rng, &object, &mut cases);
+        sweep_rooms(&object, &mut cases);
         sweep_writes(rng, &object, &mut cases);
     }
     sweep_bundle(rng, &mut cases);
@@ -129,27 +135,26 @@ fn sweep(rng: &mut Rng) -> Vec<Case> {
 /// of the eleven.
 fn sweep_reads(rng: &mut Rng, object: &[u8], cases: &mut Vec<Case>) {
     let kind = u32_at(object, 12);
-    let wanted = LISTED.contains(&kind).then_some(kind);
+    let wanted = if LISTED.contains(&kind) { kind } else { 1 };
     let log = gen::padded(object.to_vec());
     for at in 0..log.len() {
-        let mut changed = log.clone();
-        changed[at] ^= rng.nonzero();
-        for log in [log[..at].to_vec(), changed] {
-            cases.push(Case::reads(log, 0, wanted.unwrap_or(rng.pick(&LISTED))));
-        }
+        cases.push(Case::reads(log[..at].to_vec(), 0, wanted));
+        cases.push(Case::reads(changed(rng, &log, at), 0, wanted));
     }
 }
 
-/// An object, written: to every room up to a few bytes more than enough, and each byte changed but the type's.
-fn sweep_writes(rng: &mut Rng, object: &[u8], cases: &mut Vec<Case>) {
-    let enough = object.len().next_multiple_of(4);
-    for room in 0..enough + 4 {
+/// An object, written: to every room up to a few bytes more than enough.
+fn sweep_rooms(object: &[u8], cases: &mut Vec<Case>) {
+    for room in 0..object.len().next_multiple_of(4) + 4 {
         cases.push(Case::writes(6, object.to_vec(), room));
     }
+}
+
+/// An object, written: each byte changed but the type's.
+fn sweep_writes(rng: &mut Rng, object: &[u8], cases: &mut Vec<Case>) {
     for at in (0..object.len()).filter(|at| !(12..16).contains(at)) {
-        let mut changed = object.to_vec();
-        changed[at] ^= rng.nonzero();
-        cases.push(Case::writes(6, changed, enough));
+        let room = object.len().next_multiple_of(4);
+        cases.push(Case::writes(6, changed(rng, object, at), room));
     }
 }
 
@@ -158,12 +163,15 @@ fn sweep_bundle(rng: &mut Rng, cases: &mut Vec<Case>) {
     let log = gen::sound_log(rng, 6);
     let bundle = gen::bundle_bytes(&gen::honest_slips(rng, &log, 3));
     for at in 0..bundle.len() {
-        let mut changed = bundle.clone();
-        changed[at] ^= rng.nonzero();
-        for behind in [bundle[..at].to_vec(), changed] {
-            cases.push(Case::checks(log.clone(), behind));
-        }
+        cases.push(Case::checks(log.clone(), bundle[..at].to_vec()));
+        cases.push(Case::checks(log.clone(), changed(rng, &bundle, at)));
     }
+}
+
+fn changed(rng: &mut Rng, bytes: &[u8], at: usize) -> Vec<u8> {
+    let mut changed = bytes.to_vec();
+    changed[at] ^= rng.nonzero();
+    changed
 }
 
 /// One of the seven questions.

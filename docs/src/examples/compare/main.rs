@@ -80,31 +80,32 @@ impl Seen {
         *self.0.entry(what).or_default().entry(number).or_default() += 1;
     }
 
-    /// Prints it; answers how many of those that must come never came.
-    fn missing(&self) -> usize {
+    fn print(&self) {
         for (what, times) in &self.0 {
             println!("{what}: {times:?}");
         }
+    }
+
+    /// Prints and counts those of the numbers that never came.
+    fn missing(&self, what: &str, numbers: &[u64]) -> usize {
+        let came = |number| {
+            let times = self.0.get(what);
+            times.is_some_and(|times| times.contains_key(number))
+        };
+        let never: Vec<_> = numbers.iter().filter(|number| !came(number)).collect();
+        if !never.is_empty() {
+            println!("never {what}: {never:?}");
+        }
+        never.len()
+    }
+
+    /// How many never came of what must come.
+    fn all_missing(&self) -> usize {
         let types = LISTED.map(u64::from);
         let refusals: Vec<u64> = (1..=11).chain(20..=27).collect();
-        let musts = [
-            ("refused", &refusals[..]),
-            ("read", &types),
-            ("written", &types),
-        ];
-        let mut missing = 0;
-        for (what, numbers) in musts {
-            let came = |number| {
-                self.0
-                    .get(what)
-                    .is_some_and(|times| times.contains_key(number))
-            };
-            for number in numbers.iter().filter(|number| !came(number)) {
-                println!("never {what}: {number}");
-                missing += 1;
-            }
-        }
-        missing
+        self.missing("refused", &refusals)
+            + self.missing("read", &types)
+            + self.missing("written", &types)
     }
 }
 
@@ -133,7 +134,8 @@ fn judge(seed: u64, count: usize, wrong: Break) -> bool {
         println!("more replies than cases");
         failed += 1;
     }
-    failed += seen.missing();
+    seen.print();
+    failed += seen.all_missing();
     println!("{passed} passed, {failed} failed");
     failed == 0
 }
