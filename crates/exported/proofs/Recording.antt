@@ -1,9 +1,9 @@
 -- The ways out of reading an object as its bytes, and of writing one. Assumes nothing.
 use Prim.Native.Nat.{ℕ, _<_, _≤_}
 use mathlib.Core.Path.{_≡_, refl, sym, ap, _∙_}
-use mathlib.Core.List.{List, [], _∷_, _++_}
+use mathlib.Core.List.{List, []}
 use native.Mathlib.Omega.{arith}
-use lib.ListN.{length, drop}
+use lib.ListN.{length}
 use borrow.Author.Tests.{le-leb, lt-leb}
 use Rattle.fields.specs.Written.{Wrote}
 use Rattle.fields.proofs.Writing.{front}
@@ -15,7 +15,7 @@ use Rattle.outcomes.specs.declared.Written.the-variants as written
 use Rattle.outcomes.specs.Reads.{lookAt, cutOf}
 use Rattle.outcomes.specs.Writes.{Outcome}
 use Rattle.records.specs.Object.{itemIn}
-use Rattle.exported.specs.Replies.{Reply, reply, lent, Filled}
+use Rattle.exported.specs.Replies.{reply, lent, Filled}
 use Rattle.exported.specs.Records.{toldReply, lookReply, objectFor, readReply, readInto, usedReply, writeReply, writeInto}
 use Rattle.exported.proofs.Lending.{room, unfilled, filled}
 
