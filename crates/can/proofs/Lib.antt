@@ -1,4 +1,3 @@
-pub mod Bodies
 pub mod MessageLaws
 pub mod OverloadLaws
 pub mod StatisticLaws

@@ -19,7 +19,7 @@ use Rattle.headers.proofs.Heads.{clear, passes}
 use Rattle.can.specs.declared.message.Message.{Message}
 use Rattle.can.specs.Message.{message, messageFault, ValidMessage, messageLayout}
 use Rattle.can.specs.Fields.{messageOf}
-use Rattle.can.proofs.Bodies.{whole, one-size}
+use Rattle.headers.proofs.Bodies.{whole, one-size}
 
 pub message-length : (r : Message) → length (message r) ≡ 16
 unfolding message le array

@@ -19,7 +19,7 @@ use Rattle.headers.proofs.Heads.{clear, passes}
 use Rattle.can.specs.declared.overload.Overload.{Overload}
 use Rattle.can.specs.Overload.{overload, overloadFault, ValidOverload, overloadLayout}
 use Rattle.can.specs.Fields.{overloadOf}
-use Rattle.can.proofs.Bodies.{whole, one-size}
+use Rattle.headers.proofs.Bodies.{whole, one-size}
 
 pub overload-length : (r : Overload) → length (overload r) ≡ 4
 unfolding overload le

@@ -18,7 +18,7 @@ use Rattle.headers.proofs.Heads.{clear, passes}
 use Rattle.can.specs.declared.statistic.Statistic.{Statistic}
 use Rattle.can.specs.Statistic.{counters, statistic, statisticFault, ValidStatistic, statisticLayout}
 use Rattle.can.specs.Fields.{statisticOf}
-use Rattle.can.proofs.Bodies.{whole, one-size}
+use Rattle.headers.proofs.Bodies.{whole, one-size}
 
 pub statistic-length : (r : Statistic) → length (statistic r) ≡ 28
 unfolding statistic counters le

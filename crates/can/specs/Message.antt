@@ -1,4 +1,4 @@
--- 01, type 1: CAN message, 48 bytes. Offsets from the header's end.
+-- Type 1, CAN message, as bytes: what Fields reads, the other way round; its tests as the code makes them; which messages are valid.
 use Prim.Native.Nat.{ℕ, _<_, _^_}
 use mathlib.Core.Path.{_≡_}
 use mathlib.Core.Bool.{true}

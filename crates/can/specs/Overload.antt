@@ -1,4 +1,4 @@
--- 01, type 3: CAN overload, 36 bytes. Offsets from the header's end.
+-- Type 3, CAN overload, as bytes: what Fields reads, the other way round; its tests as the code makes them; which overloads are valid.
 use Prim.Native.Nat.{ℕ, _<_, _^_}
 use mathlib.Core.Path.{_≡_}
 use mathlib.Core.Bool.{true}

@@ -1,4 +1,4 @@
--- 01, type 4: CAN statistic, 60 bytes. Offsets from the header's end.
+-- Type 4, CAN statistic, as bytes: what Fields reads, the other way round; its tests as the code makes them; which statistics are valid.
 use Prim.Native.Nat.{ℕ, _<_, _^_}
 use mathlib.Core.Path.{_≡_}
 use mathlib.Core.Bool.{true}

@@ -13,10 +13,11 @@ use objects::Cursor;
 ghost use mathlib.Core.Path.{_≡_};
 ghost use Prim.Native.Nat.{_≤_};
 ghost use lib.ListN.{length};
+ghost use Rattle.compare.specs.Kept.{Kept};
 
 fn put_message(out: &mut [u8], r: Message) -> usize
     requires { ⌜ 40 ≤ length (now out) ⌝ }
-    ensures { λ r. ⌜ (r ≤ length (now (out .exit))) × (length (now (out .exit)) ≡ length (now (out .entry))) ⌝ }
+    ensures { λ r. ⌜ Kept r (now (out .entry)) (now (out .exit)) ⌝ }
 {
     let h = r.header;
     let bytes = r.bytes;
@@ -33,7 +34,7 @@ fn put_message(out: &mut [u8], r: Message) -> usize
 
 fn put_overload(out: &mut [u8], r: Overload) -> usize
     requires { ⌜ 40 ≤ length (now out) ⌝ }
-    ensures { λ r. ⌜ (r ≤ length (now (out .exit))) × (length (now (out .exit)) ≡ length (now (out .entry))) ⌝ }
+    ensures { λ r. ⌜ Kept r (now (out .entry)) (now (out .exit)) ⌝ }
 {
     let h = r.header;
     let values = [wide16(r.channel)];
@@ -43,7 +44,7 @@ fn put_overload(out: &mut [u8], r: Overload) -> usize
 
 fn put_statistic(out: &mut [u8], r: Statistic) -> usize
     requires { ⌜ 40 ≤ length (now out) ⌝ }
-    ensures { λ r. ⌜ (r ≤ length (now (out .exit))) × (length (now (out .exit)) ≡ length (now (out .entry))) ⌝ }
+    ensures { λ r. ⌜ Kept r (now (out .entry)) (now (out .exit)) ⌝ }
 {
     let h = r.header;
     let load = [wide16(r.channel), wide16(r.load)];
@@ -62,7 +63,7 @@ fn put_statistic(out: &mut [u8], r: Statistic) -> usize
 
 pub fn message(out: &mut [u8], log: &[u8], c: Cursor) -> usize
     requires { ⌜ 40 ≤ length (now out) ⌝ }
-    ensures { λ r. ⌜ (r ≤ length (now (out .exit))) × (length (now (out .exit)) ≡ length (now (out .entry))) ⌝ }
+    ensures { λ r. ⌜ Kept r (now (out .entry)) (now (out .exit)) ⌝ }
 {
     let read = can_records::read_message(log, c);
     let told = read.told;
@@ -74,7 +75,7 @@ pub fn message(out: &mut [u8], log: &[u8], c: Cursor) -> usize
 
 pub fn overload(out: &mut [u8], log: &[u8], c: Cursor) -> usize
     requires { ⌜ 40 ≤ length (now out) ⌝ }
-    ensures { λ r. ⌜ (r ≤ length (now (out .exit))) × (length (now (out .exit)) ≡ length (now (out .entry))) ⌝ }
+    ensures { λ r. ⌜ Kept r (now (out .entry)) (now (out .exit)) ⌝ }
 {
     let read = can_records::read_overload(log, c);
     let told = read.told;
@@ -86,7 +87,7 @@ pub fn overload(out: &mut [u8], log: &[u8], c: Cursor) -> usize
 
 pub fn statistic(out: &mut [u8], log: &[u8], c: Cursor) -> usize
     requires { ⌜ 40 ≤ length (now out) ⌝ }
-    ensures { λ r. ⌜ (r ≤ length (now (out .exit))) × (length (now (out .exit)) ≡ length (now (out .entry))) ⌝ }
+    ensures { λ r. ⌜ Kept r (now (out .entry)) (now (out .exit)) ⌝ }
 {
     let read = can_records::read_statistic(log, c);
     let told = read.told;

@@ -12,10 +12,11 @@ use objects::Cursor;
 ghost use mathlib.Core.Path.{_≡_};
 ghost use Prim.Native.Nat.{_≤_};
 ghost use lib.ListN.{length};
+ghost use Rattle.compare.specs.Kept.{Kept};
 
 fn put_status(out: &mut [u8], r: Status) -> usize
     requires { ⌜ 40 ≤ length (now out) ⌝ }
-    ensures { λ r. ⌜ (r ≤ length (now (out .exit))) × (length (now (out .exit)) ≡ length (now (out .entry))) ⌝ }
+    ensures { λ r. ⌜ Kept r (now (out .entry)) (now (out .exit)) ⌝ }
 {
     let h = r.header;
     let link = [
@@ -39,7 +40,7 @@ fn put_status(out: &mut [u8], r: Status) -> usize
 
 fn put_frame(out: &mut [u8], r: Frame) -> usize
     requires { ⌜ 40 ≤ length (now out) ⌝ }
-    ensures { λ r. ⌜ (r ≤ length (now (out .exit))) × (length (now (out .exit)) ≡ length (now (out .entry))) ⌝ }
+    ensures { λ r. ⌜ Kept r (now (out .entry)) (now (out .exit)) ⌝ }
 {
     let h = r.header;
     let place = [
@@ -56,7 +57,7 @@ fn put_frame(out: &mut [u8], r: Frame) -> usize
 
 fn put_error(out: &mut [u8], r: FrameError) -> usize
     requires { ⌜ 40 ≤ length (now out) ⌝ }
-    ensures { λ r. ⌜ (r ≤ length (now (out .exit))) × (length (now (out .exit)) ≡ length (now (out .entry))) ⌝ }
+    ensures { λ r. ⌜ Kept r (now (out .entry)) (now (out .exit)) ⌝ }
 {
     let frame = r.frame;
     let code = [wide32(r.code)];
@@ -66,7 +67,7 @@ fn put_error(out: &mut [u8], r: FrameError) -> usize
 
 pub fn status(out: &mut [u8], log: &[u8], c: Cursor) -> usize
     requires { ⌜ 40 ≤ length (now out) ⌝ }
-    ensures { λ r. ⌜ (r ≤ length (now (out .exit))) × (length (now (out .exit)) ≡ length (now (out .entry))) ⌝ }
+    ensures { λ r. ⌜ Kept r (now (out .entry)) (now (out .exit)) ⌝ }
 {
     let read = ethernet_records::read_status(log, c);
     let told = read.told;
@@ -78,7 +79,7 @@ pub fn status(out: &mut [u8], log: &[u8], c: Cursor) -> usize
 
 pub fn frame(out: &mut [u8], log: &[u8], c: Cursor) -> usize
     requires { ⌜ 40 ≤ length (now out) ⌝ }
-    ensures { λ r. ⌜ (r ≤ length (now (out .exit))) × (length (now (out .exit)) ≡ length (now (out .entry))) ⌝ }
+    ensures { λ r. ⌜ Kept r (now (out .entry)) (now (out .exit)) ⌝ }
 {
     let read = ethernet_records::read_frame(log, c);
     let told = read.told;
@@ -90,7 +91,7 @@ pub fn frame(out: &mut [u8], log: &[u8], c: Cursor) -> usize
 
 pub fn forwarded_frame(out: &mut [u8], log: &[u8], c: Cursor) -> usize
     requires { ⌜ 40 ≤ length (now out) ⌝ }
-    ensures { λ r. ⌜ (r ≤ length (now (out .exit))) × (length (now (out .exit)) ≡ length (now (out .entry))) ⌝ }
+    ensures { λ r. ⌜ Kept r (now (out .entry)) (now (out .exit)) ⌝ }
 {
     let read = ethernet_records::read_forwarded_frame(log, c);
     let told = read.told;
@@ -102,7 +103,7 @@ pub fn forwarded_frame(out: &mut [u8], log: &[u8], c: Cursor) -> usize
 
 pub fn frame_error(out: &mut [u8], log: &[u8], c: Cursor) -> usize
     requires { ⌜ 40 ≤ length (now out) ⌝ }
-    ensures { λ r. ⌜ (r ≤ length (now (out .exit))) × (length (now (out .exit)) ≡ length (now (out .entry))) ⌝ }
+    ensures { λ r. ⌜ Kept r (now (out .entry)) (now (out .exit)) ⌝ }
 {
     let read = ethernet_records::read_error(log, c);
     let told = read.told;
@@ -114,7 +115,7 @@ pub fn frame_error(out: &mut [u8], log: &[u8], c: Cursor) -> usize
 
 pub fn forwarded_error(out: &mut [u8], log: &[u8], c: Cursor) -> usize
     requires { ⌜ 40 ≤ length (now out) ⌝ }
-    ensures { λ r. ⌜ (r ≤ length (now (out .exit))) × (length (now (out .exit)) ≡ length (now (out .entry))) ⌝ }
+    ensures { λ r. ⌜ Kept r (now (out .entry)) (now (out .exit)) ⌝ }
 {
     let read = ethernet_records::read_forwarded_error(log, c);
     let told = read.told;

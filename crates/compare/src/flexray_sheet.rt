@@ -11,11 +11,12 @@ use objects::Cursor;
 ghost use mathlib.Core.Path.{_≡_};
 ghost use Prim.Native.Nat.{_≤_};
 ghost use lib.ListN.{length};
+ghost use Rattle.compare.specs.Kept.{Kept};
 
 // The fields in front of the frame's.
 fn put_front(out: &mut [u8], r: Receive) -> usize
     requires { ⌜ 40 ≤ length (now out) ⌝ }
-    ensures { λ r. ⌜ (r ≤ length (now (out .exit))) × (length (now (out .exit)) ≡ length (now (out .entry))) ⌝ }
+    ensures { λ r. ⌜ Kept r (now (out .entry)) (now (out .exit)) ⌝ }
 {
     let h = r.header;
     let bus = [wide16(r.channel), wide16(r.version), wide16(r.mask)];
@@ -28,7 +29,7 @@ fn put_front(out: &mut [u8], r: Receive) -> usize
 // The frame's fields in front of its data bytes.
 fn put_frame(out: &mut [u8], from: usize, r: Receive) -> usize
     requires { ⌜ from ≤ length (now out) ⌝ }
-    ensures { λ r. ⌜ (r ≤ length (now (out .exit))) × (length (now (out .exit)) ≡ length (now (out .entry))) ⌝ }
+    ensures { λ r. ⌜ Kept r (now (out .entry)) (now (out .exit)) ⌝ }
 {
     let sums = [wide16(r.id), wide16(r.crca), wide16(r.crcb)];
     let counts = [wide16(r.total), wide16(r.stored), wide8(r.cycle)];
@@ -40,7 +41,7 @@ fn put_frame(out: &mut [u8], from: usize, r: Receive) -> usize
 
 fn put_receive(out: &mut [u8], r: Receive) -> usize
     requires { ⌜ 40 ≤ length (now out) ⌝ }
-    ensures { λ r. ⌜ (r ≤ length (now (out .exit))) × (length (now (out .exit)) ≡ length (now (out .entry))) ⌝ }
+    ensures { λ r. ⌜ Kept r (now (out .entry)) (now (out .exit)) ⌝ }
 {
     let bytes = r.bytes;
     let a = put_front(out, r);
@@ -50,7 +51,7 @@ fn put_receive(out: &mut [u8], r: Receive) -> usize
 
 pub fn receive(out: &mut [u8], log: &[u8], c: Cursor) -> usize
     requires { ⌜ 40 ≤ length (now out) ⌝ }
-    ensures { λ r. ⌜ (r ≤ length (now (out .exit))) × (length (now (out .exit)) ≡ length (now (out .entry))) ⌝ }
+    ensures { λ r. ⌜ Kept r (now (out .entry)) (now (out .exit)) ⌝ }
 {
     let read = flexray_records::read_receive(log, c);
     let told = read.told;

@@ -14,6 +14,7 @@ use objects::Cursor;
 ghost use mathlib.Core.Path.{_≡_};
 ghost use Prim.Native.Nat.{_≤_};
 ghost use lib.ListN.{length};
+ghost use Rattle.compare.specs.Kept.{Kept};
 
 // The bits of a rate; those of one NaN for all.
 fn bits(exact: f64) -> u64 {
@@ -32,7 +33,7 @@ fn put_rates(
     response_stop: u32,
 ) -> usize
     requires { ⌜ from ≤ length (now out) ⌝ }
-    ensures { λ r. ⌜ (r ≤ length (now (out .exit))) × (length (now (out .exit)) ≡ length (now (out .entry))) ⌝ }
+    ensures { λ r. ⌜ Kept r (now (out .entry)) (now (out .exit)) ⌝ }
 {
     let values = [
         2,
@@ -47,7 +48,7 @@ fn put_rates(
 // A number for the way in which the message ends, 0, 1 or 2, and what it ends with.
 fn put_tail(out: &mut [u8], from: usize, t: Tail) -> usize
     requires { ⌜ from ≤ length (now out) ⌝ }
-    ensures { λ r. ⌜ (r ≤ length (now (out .exit))) × (length (now (out .exit)) ≡ length (now (out .entry))) ⌝ }
+    ensures { λ r. ⌜ Kept r (now (out .entry)) (now (out .exit)) ⌝ }
 {
     match t {
         Tail::Nothing => put_all(out, from, &[0u64]),
@@ -64,7 +65,7 @@ fn put_tail(out: &mut [u8], from: usize, t: Tail) -> usize
 // The fields in front of the stamps.
 fn put_front(out: &mut [u8], r: Message) -> usize
     requires { ⌜ 40 ≤ length (now out) ⌝ }
-    ensures { λ r. ⌜ (r ≤ length (now (out .exit))) × (length (now (out .exit)) ≡ length (now (out .entry))) ⌝ }
+    ensures { λ r. ⌜ Kept r (now (out .entry)) (now (out .exit)) ⌝ }
 {
     let h = r.header;
     let bus = [
@@ -85,7 +86,7 @@ fn put_front(out: &mut [u8], r: Message) -> usize
 // The fields between the data bytes and the tail.
 fn put_marks(out: &mut [u8], from: usize, r: Message) -> usize
     requires { ⌜ from ≤ length (now out) ⌝ }
-    ensures { λ r. ⌜ (r ≤ length (now (out .exit))) × (length (now (out .exit)) ≡ length (now (out .entry))) ⌝ }
+    ensures { λ r. ⌜ Kept r (now (out .entry)) (now (out .exit)) ⌝ }
 {
     let kind = [
         wide16(r.checksum),
@@ -105,7 +106,7 @@ fn put_marks(out: &mut [u8], from: usize, r: Message) -> usize
 
 fn put_message(out: &mut [u8], r: Message) -> usize
     requires { ⌜ 40 ≤ length (now out) ⌝ }
-    ensures { λ r. ⌜ (r ≤ length (now (out .exit))) × (length (now (out .exit)) ≡ length (now (out .entry))) ⌝ }
+    ensures { λ r. ⌜ Kept r (now (out .entry)) (now (out .exit)) ⌝ }
 {
     let stamps = r.stamps;
     let bytes = r.bytes;
@@ -119,7 +120,7 @@ fn put_message(out: &mut [u8], r: Message) -> usize
 
 fn put_wake_up(out: &mut [u8], r: WakeUp) -> usize
     requires { ⌜ 40 ≤ length (now out) ⌝ }
-    ensures { λ r. ⌜ (r ≤ length (now (out .exit))) × (length (now (out .exit)) ≡ length (now (out .entry))) ⌝ }
+    ensures { λ r. ⌜ Kept r (now (out .entry)) (now (out .exit)) ⌝ }
 {
     let h = r.header;
     let bus = [r.start, wide32(r.baud), wide16(r.channel)];
@@ -131,7 +132,7 @@ fn put_wake_up(out: &mut [u8], r: WakeUp) -> usize
 
 pub fn message(out: &mut [u8], log: &[u8], c: Cursor) -> usize
     requires { ⌜ 40 ≤ length (now out) ⌝ }
-    ensures { λ r. ⌜ (r ≤ length (now (out .exit))) × (length (now (out .exit)) ≡ length (now (out .entry))) ⌝ }
+    ensures { λ r. ⌜ Kept r (now (out .entry)) (now (out .exit)) ⌝ }
 {
     let read = lin_records::read_message(log, c);
     let told = read.told;
@@ -143,7 +144,7 @@ pub fn message(out: &mut [u8], log: &[u8], c: Cursor) -> usize
 
 pub fn wake_up(out: &mut [u8], log: &[u8], c: Cursor) -> usize
     requires { ⌜ 40 ≤ length (now out) ⌝ }
-    ensures { λ r. ⌜ (r ≤ length (now (out .exit))) × (length (now (out .exit)) ≡ length (now (out .entry))) ⌝ }
+    ensures { λ r. ⌜ Kept r (now (out .entry)) (now (out .exit)) ⌝ }
 {
     let read = lin_records::read_wake_up(log, c);
     let told = read.told;

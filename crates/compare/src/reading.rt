@@ -8,11 +8,12 @@ use objects::Cursor;
 ghost use mathlib.Core.Path.{_≡_};
 ghost use Prim.Native.Nat.{_≤_};
 ghost use lib.ListN.{length};
+ghost use Rattle.compare.specs.Kept.{Kept};
 
 // Reads the record of a type.
 fn read_as(kind: u32, out: &mut [u8], log: &[u8], c: Cursor) -> usize
     requires { ⌜ 40 ≤ length (now out) ⌝ }
-    ensures { λ r. ⌜ (r ≤ length (now (out .exit))) × (length (now (out .exit)) ≡ length (now (out .entry))) ⌝ }
+    ensures { λ r. ⌜ Kept r (now (out .entry)) (now (out .exit)) ⌝ }
 {
     match kind {
         1 => can_sheet::message(out, log, c),
@@ -33,7 +34,7 @@ fn read_as(kind: u32, out: &mut [u8], log: &[u8], c: Cursor) -> usize
 // Answers a case of the fifth question; where the reply ends.
 pub fn read(out: &mut [u8], case: &[u8]) -> usize
     requires { ⌜ 40 ≤ length (now out) ⌝ }
-    ensures { λ r. ⌜ (r ≤ length (now (out .exit))) × (length (now (out .exit)) ≡ length (now (out .entry))) ⌝ }
+    ensures { λ r. ⌜ Kept r (now (out .entry)) (now (out .exit)) ⌝ }
 {
     if case.len() < 21 {
         return none(out);

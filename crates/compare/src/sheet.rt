@@ -7,6 +7,7 @@ ghost use mathlib.Core.Path.{_≡_};
 ghost use mathlib.Core.List.{_++_};
 ghost use Prim.Native.Nat.{_≤_};
 ghost use lib.ListN.{length};
+ghost use Rattle.compare.specs.Kept.{Kept};
 ghost use Rattle.fields.specs.Written.{Wrote};
 ghost use Rattle.cases.specs.Replies.{replyBytes};
 
@@ -41,7 +42,7 @@ pub fn wide32(v: u32) -> u64 {
 // Puts a number at a place; answers the place behind it.
 fn put(out: &mut [u8], at: usize, v: u64) -> usize
     requires { ⌜ at ≤ length (now out) ⌝ }
-    ensures { λ r. ⌜ (r ≤ length (now (out .exit))) × (length (now (out .exit)) ≡ length (now (out .entry))) ⌝ }
+    ensures { λ r. ⌜ Kept r (now (out .entry)) (now (out .exit)) ⌝ }
 {
     if out.len() - at < 8 {
         return at;
@@ -53,7 +54,7 @@ fn put(out: &mut [u8], at: usize, v: u64) -> usize
 // Puts numbers one behind the other.
 pub fn put_all(out: &mut [u8], from: usize, values: &[u64]) -> usize
     requires { ⌜ from ≤ length (now out) ⌝ }
-    ensures { λ r. ⌜ (r ≤ length (now (out .exit))) × (length (now (out .exit)) ≡ length (now (out .entry))) ⌝ }
+    ensures { λ r. ⌜ Kept r (now (out .entry)) (now (out .exit)) ⌝ }
 {
     let mut at = from;
     let mut i = 0;
@@ -67,7 +68,7 @@ pub fn put_all(out: &mut [u8], from: usize, values: &[u64]) -> usize
 // Puts bytes as numbers one behind the other.
 fn put_each(out: &mut [u8], from: usize, values: &[u8]) -> usize
     requires { ⌜ from ≤ length (now out) ⌝ }
-    ensures { λ r. ⌜ (r ≤ length (now (out .exit))) × (length (now (out .exit)) ≡ length (now (out .entry))) ⌝ }
+    ensures { λ r. ⌜ Kept r (now (out .entry)) (now (out .exit)) ⌝ }
 {
     let mut at = from;
     let mut i = 0;
@@ -81,21 +82,21 @@ fn put_each(out: &mut [u8], from: usize, values: &[u8]) -> usize
 // Arrays, element by element.
 pub fn put8x8(out: &mut [u8], from: usize, v: [u8; 8]) -> usize
     requires { ⌜ from ≤ length (now out) ⌝ }
-    ensures { λ r. ⌜ (r ≤ length (now (out .exit))) × (length (now (out .exit)) ≡ length (now (out .entry))) ⌝ }
+    ensures { λ r. ⌜ Kept r (now (out .entry)) (now (out .exit)) ⌝ }
 {
     put_each(out, from, &v)
 }
 
 pub fn put8x254(out: &mut [u8], from: usize, v: [u8; 254]) -> usize
     requires { ⌜ from ≤ length (now out) ⌝ }
-    ensures { λ r. ⌜ (r ≤ length (now (out .exit))) × (length (now (out .exit)) ≡ length (now (out .entry))) ⌝ }
+    ensures { λ r. ⌜ Kept r (now (out .entry)) (now (out .exit)) ⌝ }
 {
     put_each(out, from, &v)
 }
 
 pub fn put64x9(out: &mut [u8], from: usize, v: [u64; 9]) -> usize
     requires { ⌜ from ≤ length (now out) ⌝ }
-    ensures { λ r. ⌜ (r ≤ length (now (out .exit))) × (length (now (out .exit)) ≡ length (now (out .entry))) ⌝ }
+    ensures { λ r. ⌜ Kept r (now (out .entry)) (now (out .exit)) ⌝ }
 {
     put_all(out, from, &v)
 }
@@ -103,7 +104,7 @@ pub fn put64x9(out: &mut [u8], from: usize, v: [u64; 9]) -> usize
 // Puts bytes as they are.
 pub fn put_run(out: &mut [u8], from: usize, bytes: &[u8]) -> usize
     requires { ⌜ from ≤ length (now out) ⌝ }
-    ensures { λ r. ⌜ (r ≤ length (now (out .exit))) × (length (now (out .exit)) ≡ length (now (out .entry))) ⌝ }
+    ensures { λ r. ⌜ Kept r (now (out .entry)) (now (out .exit)) ⌝ }
 {
     if out.len() - from < bytes.len() {
         return from;
@@ -115,7 +116,7 @@ pub fn put_run(out: &mut [u8], from: usize, bytes: &[u8]) -> usize
 // Puts the numbers of a header, the first of every record.
 pub fn put_header(out: &mut [u8], h: Header) -> usize
     requires { ⌜ 40 ≤ length (now out) ⌝ }
-    ensures { λ r. ⌜ (r ≤ length (now (out .exit))) × (length (now (out .exit)) ≡ length (now (out .entry))) ⌝ }
+    ensures { λ r. ⌜ Kept r (now (out .entry)) (now (out .exit)) ⌝ }
 {
     let values = [h.unit as u64, h.client as u64, h.version as u64, h.stamp];
     put_all(out, FRONT, &values)
@@ -136,7 +137,7 @@ fn reply(word: u64, first: u64, second: u64, next: u64) -> Reply {
 // another type; 2 at the log's end; 3 and the refusal. Answers where all ends.
 pub fn close(out: &mut [u8], told: Told, next: Cursor, end: usize, frame: &[u8]) -> usize
     requires { ⌜ (40 ≤ length (now out)) × (end ≤ length (now out)) ⌝ }
-    ensures { λ r. ⌜ (r ≤ length (now (out .exit))) × (length (now (out .exit)) ≡ length (now (out .entry))) ⌝ }
+    ensures { λ r. ⌜ Kept r (now (out .entry)) (now (out .exit)) ⌝ }
 {
     let to = next.at as u64;
     match told {
@@ -156,7 +157,7 @@ pub fn close(out: &mut [u8], told: Told, next: Cursor, end: usize, frame: &[u8])
 // The reply to what is no case of ours: zeros.
 pub fn none(out: &mut [u8]) -> usize
     requires { ⌜ 40 ≤ length (now out) ⌝ }
-    ensures { λ r. ⌜ (r ≤ length (now (out .exit))) × (length (now (out .exit)) ≡ length (now (out .entry))) ⌝ }
+    ensures { λ r. ⌜ Kept r (now (out .entry)) (now (out .exit)) ⌝ }
 {
     put_reply(out, reply(0, 0, 0, 0));
     40

@@ -1,23 +1,20 @@
 -- The laws of the Ethernet status: what is written is read, and what no fault refuses is what is written. Assumes nothing.
-use mathlib.Core.Path.{_≡_, refl, sym, ap, _∙_}
+use mathlib.Core.Path.{_≡_, refl, sym}
 use mathlib.Core.List.{List}
-use Prim.Native.Nat.{ℕ, _+_}
+use Prim.Native.Nat.{ℕ}
 use native.Mathlib.Nat.{le-of-eq}
-use native.Mathlib.Omega.{arith}
 use lib.Dec.{lit≤}
 use lib.ListN.{length}
-use lib.Seq.{take-all}
 use Rattle.fields.specs.Numbers.{Bytes, num}
 use Rattle.fields.specs.Digits.{le}
 use Rattle.fields.proofs.Numbers.{val-le}
 use Rattle.fields.proofs.Reading.{more, got, fits}
 use Rattle.headers.specs.declared.header.Header.{Header}
-use Rattle.headers.specs.Format.{headerLength}
 use Rattle.headers.specs.Header.{Fit}
 use Rattle.headers.specs.Types.{typeList, sizesIn}
-use Rattle.headers.specs.Rows.{rowIn}
-use Rattle.headers.specs.Layout.{Sized, Lawful}
-use Rattle.headers.proofs.TypeList.{types-exact}
+use Rattle.headers.specs.Layout.{Lawful}
+use Rattle.headers.proofs.TypeList.{listed-exact}
+use Rattle.headers.proofs.Bodies.{whole, one-size}
 use Rattle.headers.proofs.Heads.{clear, passes}
 use Rattle.ethernet.specs.declared.status.Status.{Status}
 use Rattle.ethernet.specs.Status.{status, statusFault, ValidStatus, statusLayout}
@@ -51,18 +48,14 @@ module _ (r : Status) (v : ValidStatus r) where
   status-no-fault = passes 7 0 (v .unit)
 
 -- what no fault refuses is what is written, and valid
-module _ (h : Header) (b : List ℕ) (f : Fit h) (bs : Bytes b) (s : Sized 103 b) (z : statusFault h b ≡ 0) where
-  long : length b ≡ 16
-  unfolding typeList sizesIn
-  long = let e : headerLength + length b ≡ 48 = types-exact 103 _ .0 s in omega arith
-
+module _ (h : Header) (b : List ℕ) (f : Fit h) (bs : Bytes b) (long : length b ≡ 16) (z : statusFault h b ≡ 0) where
   pub status-forth : status (statusOf h b) ≡ b
   unfolding status statusOf
   status-forth =
       let g = got b bs 16 (le-of-eq (sym long)) in
       let x = more (more (more (more (more (g 2 0 (lit≤ tt)) (g 2 2 (lit≤ tt)) refl) (g 1 4 (lit≤ tt)) refl) (g 1 5 (lit≤ tt)) refl) (g 1 6 (lit≤ tt)) refl) (g 1 7 (lit≤ tt)) refl in
       let y = more (more (more (more (more x (g 1 8 (lit≤ tt)) refl) (g 1 9 (lit≤ tt)) refl) (g 1 10 (lit≤ tt)) refl) (g 1 11 (lit≤ tt)) refl) (g 4 12 (lit≤ tt)) refl in
-      y .is ∙ take-all 16 b (le-of-eq long)
+      whole y long
 
   pub status-valid : ValidStatus (statusOf h b)
   unfolding statusOf statusFault
@@ -85,14 +78,6 @@ module _ (h : Header) (b : List ℕ) (f : Fit h) (bs : Bytes b) (s : Sized 103 b
       }
 
 pub status-laws : Lawful statusLayout
-unfolding typeList sizesIn rowIn statusOf
-status-laws = record {
-  known = refl;
-  fit = λ r v. v .header;
-  same-header = λ h b. refl;
-  sized = λ r v. types-exact 103 _ .1 (ap (λ (n : ℕ). headerLength + n) (status-length r));
-  back = status-back;
-  forth = status-forth;
-  no-fault = status-no-fault;
-  valid = status-valid;
-}
+unfolding typeList sizesIn statusOf
+status-laws =
+    one-size statusLayout 16 refl (listed-exact 103) (λ r v. v .header) (λ h b. refl) status-length status-back status-forth status-no-fault status-valid

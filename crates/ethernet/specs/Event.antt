@@ -1,5 +1,5 @@
--- 01, types 120 to 123: what a frame and an error have in common, 64 + n bytes. Offsets from the header's end. Structure
--- length and frame length follow from the frame's bytes, which are lent beside the record.
+-- Types 120 to 123 as bytes: what a frame and an error have in common. Structure length and frame length follow from the frame's bytes,
+-- which are lent beside the record.
 use Prim.Native.Nat.{ℕ, _-_}
 use mathlib.Core.List.{List, _++_}
 use lib.Dec.{eqb}

@@ -1,5 +1,5 @@
--- 01, types 120 and 121: Ethernet frame and forwarded frame, 64 + n bytes. Offsets from the header's end. The two differ in
--- the type number alone, the `kind` of their layout.
+-- Types 120 and 121, frame and forwarded frame, as bytes: what Fields reads, the other way round; their tests as the code makes them; which
+-- records are valid. The two differ in the type number alone, the `kind` of their layout.
 use Prim.Native.Nat.{ℕ, _≤_, _<_, _^_}
 use mathlib.Core.Path.{_≡_}
 use mathlib.Core.Bool.{true}

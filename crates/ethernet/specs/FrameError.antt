@@ -1,5 +1,5 @@
--- 01, types 122 and 123: Ethernet error and forwarded error, 64 + n bytes. Offsets from the header's end. The two differ in
--- the type number alone, the `kind` of their layout.
+-- Types 122 and 123, error and forwarded error, as bytes: what Fields reads, the other way round; their tests as the code makes them; which
+-- records are valid. The two differ in the type number alone, the `kind` of their layout.
 use Prim.Native.Nat.{ℕ, _<_, _^_}
 use mathlib.Core.List.{List}
 use Rattle.fields.specs.Digits.{le}

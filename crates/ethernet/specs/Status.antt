@@ -1,4 +1,4 @@
--- 01, type 103: Ethernet status, 48 bytes. Offsets from the header's end; the eight bytes are in document 003's order.
+-- Type 103, Ethernet status, as bytes: what Fields reads, the other way round; its tests as the code makes them; which records are valid.
 use Prim.Native.Nat.{ℕ, _<_, _^_}
 use mathlib.Core.Path.{_≡_}
 use mathlib.Core.Bool.{true}

@@ -17,18 +17,10 @@ use Rattle.objects.specs.Views.{objectAt, frameAt}
 use Rattle.objects.proofs.ItemLaws.{written}
 use Rattle.objects.proofs.Standing.{Stands, step-over}
 use Rattle.outcomes.specs.declared.Told.the-variants as told
-use Rattle.outcomes.specs.declared.Looked.{Looked}
-use Rattle.outcomes.specs.Reads.{lookAt, cutOf, recordIn, recordAt}
-use Rattle.outcomes.proofs.Reading.{reads, read-stands, read-exact}
-use Rattle.ethernet_records.specs.Framed.{framed, ReadsAs}
+use Rattle.outcomes.specs.Reads.{lookAt, recordAt}
+use Rattle.outcomes.proofs.Reading.{read-stands, read-exact}
+use Rattle.ethernet_records.specs.Framed.{framed}
 use Rattle.ethernet_records.proofs.Holding.{Holds, frame-holds, forwarded-frame-holds, error-holds, forwarded-error-holds}
-
--- code that looks for the number of type k, cuts and takes a part of the record out
-pub reads-as : (k : Kind) {A : Type 0} (pick : Record k → A) (s : List ℕ) (at : ℕ) {kind : ℕ} {l : Looked} {o : List ℕ} {a : A}
-    → l ≡ lookAt s at kind → o ≡ cutOf s l → a ≡ pick (recordIn k o) → kind ≡ layoutOf k .kind → ReadsAs k pick s at (l .told) (l .next) a
-reads-as k pick s at e f g q =
-    let r = reads k s at (e ∙ ap (lookAt s at) q) f refl in
-    record { told = r .told; next = r .next; value = g ∙ ap pick (r .value) }
 
 module _ (k : Kind) {bytes : Record k → List ℕ} (h : Holds k bytes) (s : List ℕ) (at : ℕ) where
   module _ (r : Record k) (w : Stands s at (known k r)) where

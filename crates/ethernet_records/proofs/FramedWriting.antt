@@ -14,7 +14,8 @@ use Rattle.headers.specs.Header.{header}
 use Rattle.headers.specs.Types.{Sizes, upTo, Has}
 use Rattle.headers.specs.Rows.{rowOf, allowed}
 use Rattle.headers.specs.Tests.{first}
-use Rattle.headers.proofs.TypeList.{types-exact, at-least}
+use Rattle.headers.proofs.TypeList.{types-exact}
+use Rattle.headers.proofs.TypeBounds.{at-least}
 use Rattle.ethernet.specs.Fields.{structureLength, longestFrame}
 use Rattle.ethernet.proofs.EventLaws.{Carries}
 use Rattle.objects.specs.Kinds.{Kind, Record, layoutOf}

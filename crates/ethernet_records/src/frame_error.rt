@@ -10,9 +10,9 @@ ghost use Prim.Native.Nat.{_≤_};
 ghost use lib.ListN.{length};
 ghost use Rattle.objects.specs.Kinds.{error, forwardedError};
 ghost use Rattle.objects.specs.Items.{known};
-ghost use Rattle.outcomes.specs.Reads.{recordOf, recordIn};
+ghost use Rattle.outcomes.specs.Reads.{recordOf, recordIn, ReadsAs};
 ghost use Rattle.outcomes.specs.Writes.{Outcome};
-ghost use Rattle.ethernet_records.specs.Framed.{framed, ReadsAs};
+ghost use Rattle.ethernet_records.specs.Framed.{framed};
 
 const KIND: u32 = 122;
 

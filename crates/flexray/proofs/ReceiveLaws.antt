@@ -4,22 +4,21 @@ use mathlib.Core.Bool.{true}
 use mathlib.Core.List.{List, [], _++_, append-nil}
 use Prim.Native.Nat.{ℕ, _+_, _≤_, _<_, _^_}
 use native.Mathlib.Nat.{le-of-eq}
-use native.Mathlib.Omega.{arith}
 use lib.Dec.{T, leb, lit≤}
 use lib.ListN.{length, length-append}
-use lib.Seq.{take-all}
 use Rattle.fields.specs.Numbers.{Bytes, part, num, zeros, allZero, nums}
 use Rattle.fields.specs.Digits.{le}
 use Rattle.fields.proofs.Numbers.{val-le}
 use Rattle.fields.proofs.Reading.{Is, more, got, fits, blank}
 use Rattle.fields.proofs.Elements.{length-array, length-nums, array-nums, nums-fit, nums-array}
 use Rattle.headers.specs.declared.header.Header.{Header}
-use Rattle.headers.specs.Format.{headerLength, unitOk}
+use Rattle.headers.specs.Format.{unitOk}
 use Rattle.headers.specs.Header.{Fit}
 use Rattle.headers.specs.Types.{typeList, sizesIn}
 use Rattle.headers.specs.Tests.{first}
-use Rattle.headers.specs.Layout.{Sized, Lawful}
-use Rattle.headers.proofs.TypeList.{types-exact, listed-exact}
+use Rattle.headers.specs.Layout.{Lawful}
+use Rattle.headers.proofs.TypeList.{listed-exact}
+use Rattle.headers.proofs.Bodies.{whole, one-size}
 use Rattle.headers.proofs.Heads.{clear, passes}
 use Rattle.flexray.specs.declared.receive.Receive.{Receive}
 use Rattle.flexray.specs.Receive.{origin, slot, controller, receive, receiveFault, ValidReceive, receiveLayout}
@@ -89,20 +88,16 @@ passed h b z =
     record { unit = c1 .0; after-direction = c2 .0; after-cycle = c3 .0; reserved = c4 .0; counts = c5 .0 }
 
 -- what no fault refuses is what is written, and valid
-module _ (h : Header) (b : List ℕ) (f : Fit h) (bs : Bytes b) (n : Sized 50 b) (z : receiveFault h b ≡ 0) where
-  long : length b ≡ 298
-  unfolding typeList sizesIn
-  long = let e : headerLength + length b ≡ 330 = types-exact 50 _ .0 n in omega arith
-
-  whole : 298 ≤ length b
-  whole = le-of-eq (sym long)
+module _ (h : Header) (b : List ℕ) (f : Fit h) (bs : Bytes b) (long : length b ≡ 298) (z : receiveFault h b ≡ 0) where
+  all : 298 ≤ length b
+  all = le-of-eq (sym long)
 
   -- a field's bytes and its bound, and bytes that were found zero; antt computes that they stand in the body
   field : (w at : ℕ) → T (leb (at + w) 298) → Is b at w (le w (num w b at))
-  field w at l = got b bs 298 whole w at (lit≤ l)
+  field w at l = got b bs 298 all w at (lit≤ l)
 
   bound : (w at : ℕ) → T (leb (at + w) 298) → num w b at < 256 ^ w
-  bound w at l = fits b bs 298 whole w at (lit≤ l)
+  bound w at l = fits b bs 298 all w at (lit≤ l)
 
   gap : (w at : ℕ) → T (leb (at + w) 298) → allZero (part w b at) ≡ true → Is b at w (zeros w)
   gap w at l = blank b w at (rw long (lit≤ l))
@@ -127,7 +122,7 @@ module _ (h : Header) (b : List ℕ) (f : Fit h) (bs : Bytes b) (n : Sized 50 b)
   pub receive-forth : receive (receiveOf h b) ≡ b
   unfolding receive receiveOf
   receive-forth =
-      more (more (more is-origin is-slot refl) is-controller refl) (array-nums 1 b bs 44 254 whole) refl .is ∙ take-all 298 b (le-of-eq long)
+      whole (more (more (more is-origin is-slot refl) is-controller refl) (array-nums 1 b bs 44 254 all) refl) long
 
   pub receive-valid : ValidReceive (receiveOf h b)
   unfolding receiveOf
@@ -150,23 +145,11 @@ module _ (h : Header) (b : List ℕ) (f : Fit h) (bs : Bytes b) (n : Sized 50 b)
     state = bound 4 32 tt;
     flags = bound 4 36 tt;
     long = length-nums 1 254 b 44;
-    bytes = nums-fit 1 b bs 44 254 whole;
+    bytes = nums-fit 1 b bs 44 254 all;
     counts = passed h b z .counts;
   }
 
-receive-sized : (r : Receive) → Sized 50 (receive r)
-unfolding typeList sizesIn
-receive-sized r = types-exact 50 _ .1 (ap (λ (n : ℕ). headerLength + n) (receive-length r))
-
 pub receive-laws : Lawful receiveLayout
-unfolding receiveOf
-receive-laws = record {
-  known = listed-exact 50;
-  fit = λ r v. v .header;
-  same-header = λ h b. refl;
-  sized = λ r v. receive-sized r;
-  back = receive-back;
-  forth = receive-forth;
-  no-fault = receive-no-fault;
-  valid = receive-valid;
-}
+unfolding typeList sizesIn receiveOf
+receive-laws =
+    one-size receiveLayout 298 refl (listed-exact 50) (λ r v. v .header) (λ h b. refl) receive-length receive-back receive-forth receive-no-fault receive-valid

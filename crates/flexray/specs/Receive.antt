@@ -1,4 +1,4 @@
--- 01, type 50: FlexRay receive, 330 bytes (002, 3.7). Offsets from the header's end.
+-- Type 50, FlexRay receive, as bytes: what Fields reads, the other way round; its tests as the code makes them; which records are valid.
 use Prim.Native.Nat.{ℕ, _<_, _^_}
 use mathlib.Core.Path.{_≡_}
 use mathlib.Core.Bool.{true}

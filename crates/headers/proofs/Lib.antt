@@ -1,4 +1,7 @@
 pub mod TypeList
+pub mod TypeBounds
+pub mod TypeSearch
 pub mod Objects
 pub mod Heads
 pub mod Layouts
+pub mod Bodies

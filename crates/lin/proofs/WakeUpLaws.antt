@@ -1,23 +1,21 @@
 -- The laws of the wake-up: what is written is read, and what no fault refuses is written back. Assumes nothing.
-use mathlib.Core.Path.{_≡_, refl, sym, ap, _∙_}
+use mathlib.Core.Path.{_≡_, refl, sym}
 use mathlib.Core.List.{List}
-use Prim.Native.Nat.{ℕ, _+_}
+use Prim.Native.Nat.{ℕ}
 use native.Mathlib.Nat.{le-of-eq}
-use native.Mathlib.Omega.{arith}
 use lib.ListN.{length}
-use lib.Seq.{take-all}
 use lib.Dec.{lit≤}
 use Rattle.fields.specs.Numbers.{Bytes, num, allZero}
 use Rattle.fields.specs.Digits.{le}
 use Rattle.fields.proofs.Numbers.{val-le}
 use Rattle.fields.proofs.Reading.{more, got, fits, blank}
 use Rattle.headers.specs.declared.header.Header.{Header}
-use Rattle.headers.specs.Format.{headerLength}
 use Rattle.headers.specs.Header.{Fit}
 use Rattle.headers.specs.Types.{typeList, sizesIn}
 use Rattle.headers.specs.Tests.{first}
-use Rattle.headers.specs.Layout.{Sized, Lawful}
-use Rattle.headers.proofs.TypeList.{types-exact, listed-exact}
+use Rattle.headers.specs.Layout.{Lawful}
+use Rattle.headers.proofs.TypeList.{listed-exact}
+use Rattle.headers.proofs.Bodies.{whole, one-size}
 use Rattle.headers.proofs.Heads.{clear, passes}
 use Rattle.lin.specs.declared.wake_up.WakeUp.{WakeUp}
 use Rattle.lin.specs.Bus.{bus}
@@ -48,11 +46,7 @@ module _ (r : WakeUp) (v : ValidWakeUp r) where
   wake-up-no-fault = passes 7 0 (v .unit)
 
 -- what no fault refuses is what is written, and valid
-module _ (h : Header) (b : List ℕ) (f : Fit h) (bs : Bytes b) (s : Sized 62 b) (z : wakeUpFault h b ≡ 0) where
-  long : length b ≡ 20
-  unfolding typeList sizesIn
-  long = let e : headerLength + length b ≡ 52 = types-exact 62 _ .0 s in omega arith
-
+module _ (h : Header) (b : List ℕ) (f : Fit h) (bs : Bytes b) (long : length b ≡ 20) (z : wakeUpFault h b ≡ 0) where
   pub wake-up-forth : wakeUp (wakeUpOf h b) ≡ b
   unfolding wakeUp wakeUpOf wakeUpFault
   wake-up-forth =
@@ -60,7 +54,7 @@ module _ (h : Header) (b : List ℕ) (f : Fit h) (bs : Bytes b) (s : Sized 62 b)
       let c8 = clear _ _ _ (clear _ _ _ z .1) in
       let x = is-bus b bs (rw long (lit≤ tt)) (c8 .0) in
       let y = more (more (more x (g 1 16 (lit≤ tt)) refl) (g 1 17 (lit≤ tt)) refl) (g 1 18 (lit≤ tt)) refl in
-      more y (blank b 1 19 (le-of-eq (sym long)) (clear _ _ _ (c8 .1) .0)) refl .is ∙ take-all 20 b (le-of-eq long)
+      whole (more y (blank b 1 19 (le-of-eq (sym long)) (clear _ _ _ (c8 .1) .0)) refl) long
 
   pub wake-up-valid : ValidWakeUp (wakeUpOf h b)
   unfolding wakeUpOf wakeUpFault
@@ -77,19 +71,7 @@ module _ (h : Header) (b : List ℕ) (f : Fit h) (bs : Bytes b) (s : Sized 62 b)
         external = g 1 18 (lit≤ tt);
       }
 
-wake-up-sized : (r : WakeUp) → Sized 62 (wakeUp r)
-unfolding typeList sizesIn
-wake-up-sized r = types-exact 62 _ .1 (ap (λ (n : ℕ). headerLength + n) (wake-up-length r))
-
 pub wake-up-laws : Lawful wakeUpLayout
-unfolding wakeUpOf
-wake-up-laws = record {
-  known = listed-exact 62;
-  fit = λ r v. v .header;
-  same-header = λ h b. refl;
-  sized = λ r v. wake-up-sized r;
-  back = wake-up-back;
-  forth = wake-up-forth;
-  no-fault = wake-up-no-fault;
-  valid = wake-up-valid;
-}
+unfolding typeList sizesIn wakeUpOf
+wake-up-laws =
+    one-size wakeUpLayout 20 refl (listed-exact 62) (λ r v. v .header) (λ h b. refl) wake-up-length wake-up-back wake-up-forth wake-up-no-fault wake-up-valid

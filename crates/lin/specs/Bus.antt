@@ -1,4 +1,4 @@
--- 01, types 57 and 62: what both LIN records begin with, 16 bytes (001, 3.1.4). Offsets from the header's end.
+-- Types 57 and 62 as bytes: what both LIN records begin with, 16 bytes (001, 3.1.4).
 use Prim.Native.Nat.{ℕ}
 use mathlib.Core.List.{List, _++_}
 use Rattle.fields.specs.Digits.{le}

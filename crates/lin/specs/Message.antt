@@ -1,4 +1,4 @@
--- 01, type 57: LIN message 2, 164, 168 or 184 bytes (001, 3.3). Offsets from the header's end.
+-- Type 57, LIN message 2, as bytes: what Fields reads, the other way round; its tests as the code makes them; which messages are valid.
 use Prim.Native.Nat.{ℕ, _<_, _^_}
 use mathlib.Core.Path.{_≡_}
 use mathlib.Core.Bool.{true}

@@ -1,4 +1,4 @@
--- 01, type 62: LIN wake-up 2, 52 bytes (001, 3.8). Offsets from the header's end.
+-- Type 62, LIN wake-up 2, as bytes: what Fields reads, the other way round; its tests as the code makes them; which wake-ups are valid.
 use Prim.Native.Nat.{ℕ, _<_, _^_}
 use mathlib.Core.Path.{_≡_}
 use mathlib.Core.Bool.{true}

@@ -1,5 +1,4 @@
 -- Of entries and slips and their bytes.
-pub mod BigEndian
 pub mod EntryBytes
 pub mod SlipFaults
 pub mod SlipBytes

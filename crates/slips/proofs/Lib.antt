@@ -1,5 +1,5 @@
 pub mod Format
 pub mod Trouble
 pub mod Theorems
-pub mod Tables
+pub mod Refuted
 pub mod Loops

@@ -7,6 +7,6 @@ pub mod Soonest
 pub mod Check
 pub mod Share
 pub mod Kinds
-pub mod Marked
+pub mod Samples
 pub mod Wrong
 pub mod Inner

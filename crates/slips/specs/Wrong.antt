@@ -16,7 +16,7 @@ use Rattle.slips.specs.Right.{entriesOn}
 use Rattle.slips.specs.Trouble.{Trouble, None, Found}
 use Rattle.slips.specs.Soonest.{soonest, soonestOn, stray, miscount, troubleOf}
 use Rattle.slips.specs.Check.{answerOf, judgedOf}
-use Rattle.slips.specs.Marked.{entry, two, m11, m12, forty}
+use Rattle.slips.specs.Samples.{entry, two, m11, m12, forty}
 
 abbrev pub refusesAll : Walked → List Entry → Cut → Verdict
 refusesAll w os c = Refused 20 0

@@ -9,7 +9,7 @@ use objects::Cursor;
 ghost use mathlib.Core.Path.{_≡_};
 ghost use Rattle.slips.specs.Check.{checkOf};
 ghost use Rattle.slips.specs.Inner.Places.{AllPlaced};
-ghost use Rattle.slips.specs.Inner.Pass.{restOf, layOf};
+ghost use Rattle.slips.specs.Inner.Pass.{restOf, endOf, layOf};
 
 // Accepted with the number of the log's objects, or refused by a number at a place.
 pub enum Verdict {
@@ -63,6 +63,21 @@ fn rest(log: &[u8], from: Cursor, number: u32, place: usize) -> Verdict
     }
 }
 
+// Behind the last of n objects: an entry that is left is stray.
+fn end(b: &[u8], places: [Place; Bundle::SLIPS], n: usize) -> Verdict
+    requires { ⌜ AllPlaced (now b) places ⌝ }
+    ensures { λ r. ⌜ r ≡ endOf (now (b .entry)) places n ⌝ }
+{
+    let m = advance(places, b, Merged::PAST, 0, 0);
+    if m.low < Merged::PAST {
+        return Verdict::Refused {
+            number: STRAY,
+            place: m.low,
+        };
+    }
+    Verdict::Accepted(n)
+}
+
 // The walk and the merge together: how many objects there are, or the first refusal.
 fn lay(log: &[u8], b: &[u8], places: [Place; Bundle::SLIPS]) -> Verdict
     requires { ⌜ AllPlaced (now b) places ⌝ }
@@ -81,14 +96,7 @@ fn lay(log: &[u8], b: &[u8], places: [Place; Bundle::SLIPS]) -> Verdict
                     return Verdict::Refused { number, place };
                 }
                 _ => {
-                    let end = advance(slips, b, Merged::PAST, 0, 0);
-                    if end.low < Merged::PAST {
-                        return Verdict::Refused {
-                            number: STRAY,
-                            place: end.low,
-                        };
-                    }
-                    return Verdict::Accepted(n);
+                    return end(b, slips, n);
                 }
             }
         };

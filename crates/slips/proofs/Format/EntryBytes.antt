@@ -17,7 +17,7 @@ use Rattle.objects.specs.Named.{Entry, Above, Rising}
 use Rattle.slips.specs.Bundle.{entryBytes, entriesBytes, Fits, AllFit}
 use Rattle.slips.specs.Cut.{entryIn, entriesIn, risesFrom}
 use Rattle.slips.proofs.Trouble.Entries.{entry-same}
-use Rattle.slips.proofs.Format.BigEndian.{length-be, big-be, big-behind, big-lt, got-be}
+use Rattle.fields.proofs.BigEndian.{length-be, big-be, big-behind, big-lt, got-be}
 
 length-entry : (e : Entry) → length (entryBytes e) ≡ 12
 length-entry e = simp (length-append, length-be)

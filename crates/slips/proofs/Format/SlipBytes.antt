@@ -10,7 +10,7 @@ use Rattle.fields.specs.Digits.{be}
 use Rattle.fields.proofs.Parts.{drop-bytes}
 use Rattle.slips.specs.Cut.{Slip, lengthIn, deskIn, slipIn}
 use Rattle.slips.specs.Bundle.{entriesBytes, slipLength, slipBytes, ByRule}
-use Rattle.slips.proofs.Format.BigEndian.{length-be, big-be, big-lt, be-big}
+use Rattle.fields.proofs.BigEndian.{length-be, big-be, big-lt, be-big}
 use Rattle.slips.proofs.Format.EntryBytes.{length-entries, entries-many, entries-back, entries-forth, entries-fit, rises-rising, rising-rises}
 use Rattle.slips.proofs.Format.SlipFaults.{Whole}
 

@@ -24,8 +24,8 @@ use Rattle.slips.specs.declared.pass.Verdict.the-variants.{Accepted, Ref
 use Rattle.slips.specs.Trouble.{Found}
 use Rattle.slips.specs.Check.{objectsOf, answerOf}
 use Rattle.slips.specs.Inner.Places.{AllPlaced, slipsAt}
-use Rattle.slips.specs.Inner.Merge.{past, theEnd, mergedOf, settle, finish, mergeOf}
-use Rattle.slips.specs.Inner.Pass.{restOf, layOf}
+use Rattle.slips.specs.Inner.Merge.{past, theEnd, mergedOf, settle, mergeOf}
+use Rattle.slips.specs.Inner.Pass.{restOf, endOf, layOf}
 use Rattle.slips.proofs.Theorems.LogEntries.{objectsAt, objects-next, objects-done}
 use Rattle.slips.proofs.Loops.Beside.{hits, low}
 use Rattle.slips.proofs.Loops.Standing.{Turned, turned}
@@ -88,6 +88,16 @@ module _ (s : List ℕ) (k x : ℕ) where
         let l = walking-less s at 0 start size kind e in
         rw e (any (suc (length s)) (length s) 0 1 (nextAt s at .next .at) (omega arith) (omega arith))
 
+-- behind the last object
+module _ (b : List ℕ) (ps : List Place) (n : ℕ) {m : Merged} (q : m ≡ mergedOf b theEnd ps) where
+  pub end-left : m .low < past → Refused 25 (m .low) ≡ endOf b ps n
+  unfolding endOf
+  end-left l = rw (← q, lt-ltb (m .low) past l)
+
+  pub end-good : past ≤ m .low → Accepted n ≡ endOf b ps n
+  unfolding endOf
+  end-good l = rw (← q, le-ltb (m .low) past l)
+
 -- the walk and the merge: what is left of both gives what the whole gives
 pub record Laying (s b : List ℕ) (ps₀ : List Place) (at n : ℕ) (ps : List Place) : Type 0 where
   pub walk : Walking s at n
@@ -104,18 +114,11 @@ module _ (s b : List ℕ) (ps₀ : List Place) (at n : ℕ) (ps : List Place) (w
   lay-refused e = rw (← w .walk .same, walk-refused s at n (w .walk .fuel) (w .walk .enough) e)
 
   -- at the end
-  module _ (e : nextAt s at .answer ≡ answer.Done) (m : Merged) (q : m ≡ mergedOf b theEnd ps) where
-    at-end : layOf s b ps₀ ≡ answerOf (walked.Count n) (finish (m .low))
-    unfolding layOf
-    at-end =
-        let t = turned b theEnd ps m (w .placed) q in
-        rw (← w .same, objects-done s at e, ← w .walk .same, walk-done s at n (w .walk .fuel) (w .walk .enough) e, t .lowest)
-
-    pub lay-left : m .low < past → Refused 25 (m .low) ≡ layOf s b ps₀
-    lay-left l = rw (at-end, lt-ltb (m .low) past l)
-
-    pub lay-good : past ≤ m .low → Accepted n ≡ layOf s b ps₀
-    lay-good l = rw (at-end, le-ltb (m .low) past l)
+  pub lay-end : nextAt s at .answer ≡ answer.Done → endOf b ps n ≡ layOf s b ps₀
+  unfolding layOf endOf
+  lay-end e =
+      let t = turned b theEnd ps (mergedOf b theEnd ps) (w .placed) refl in
+      rw (← w .same, objects-done s at e, ← w .walk .same, walk-done s at n (w .walk .fuel) (w .walk .enough) e, t .lowest)
 
   -- at an object
   module _ (start size kind : ℕ) (e : nextAt s at .answer ≡ answer.Object start size kind) (m : Merged) (q : m ≡ mergedOf b (record { start = start; size = size; kind = kind }) ps) where

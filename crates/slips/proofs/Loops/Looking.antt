@@ -17,7 +17,7 @@ use Rattle.slips.specs.Cut.{entryIn, entriesIn}
 use Rattle.slips.specs.Right.{same}
 use Rattle.slips.specs.Inner.Places.{Placed, slipAt}
 use Rattle.slips.specs.Inner.Merge.{headAt, moveList, movePlace}
-use Rattle.slips.proofs.Format.BigEndian.{big-drop}
+use Rattle.fields.proofs.BigEndian.{big-drop}
 use Rattle.slips.proofs.Trouble.Entries.{entry-same}
 
 -- a slip at a place

@@ -17,7 +17,7 @@ use Rattle.slips.specs.Bundle.{entryBytes, entriesBytes, slipLength, sli
 use Rattle.slips.specs.Check.{longest, checkOf}
 use Rattle.slips.specs.Claims.{Honest}
 use Rattle.slips.specs.Share.{share, Sharing}
-use Rattle.slips.proofs.Format.BigEndian.{bytes-cons, bytes-append, bytes-be}
+use Rattle.fields.proofs.BigEndian.{bytes-cons, bytes-append, bytes-be}
 use Rattle.slips.proofs.Theorems.Verdicts.{check-exact}
 use Rattle.slips.proofs.Theorems.Sharing.{desks-once, share-times, share-on, share-rule, share-length}
 

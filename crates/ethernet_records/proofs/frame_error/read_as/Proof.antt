@@ -4,7 +4,7 @@ use Rattle.headers.specs.Types.{typeList, sizesIn}
 use Rattle.objects.specs.Kinds.{error, forwardedError}
 use Rattle.outcomes.specs.Reads.{recordIn}
 use Rattle.outcomes.proofs.Looks.{look-within}
-use Rattle.ethernet_records.proofs.FramedReading.{reads-as}
+use Rattle.outcomes.proofs.Reading.{reads-as}
 use Rattle.ethernet_records.proofs.frame_error.read_as.Statement.{statement}
 use Rattle.ethernet_records.proofs.frame_error.read_as.Tie as tie
 

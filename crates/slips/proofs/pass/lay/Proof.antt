@@ -24,54 +24,48 @@ returns c =
     let st = c .before .before .before .before .before in
     laying.lay-refused _ _ _ _ _ _ (st .before .loop .inv) (ap (λ (x : Step). x .answer) (sym (st .step .ensures)) ∙ c .before .answer2 .given .1)
 
-advance-requires : tie.Need-advance-requires Inv-loop μ-loop
-advance-requires c κs = c .before .before .before .before .loop .inv .placed
+end-requires : tie.Need-end-requires Inv-loop μ-loop
+end-requires c κs = c .before .before .before .before .loop .inv .placed
 
 returns-2 : tie.Need-returns-2 Inv-loop μ-loop
 returns-2 c =
-    let st = c .before .before .before .before .before .before in
-    let e = ap (λ (x : Step). x .answer) (sym (st .step .ensures)) ∙ left _ (c .before .before .before .match2 .keys2) (c .before .before .before .before .match .keys2) in
-    laying.lay-left _ _ _ _ _ _ (st .before .loop .inv) e _ (c .before .before .advance .ensures) (c .if1 .taken)
+    let st = c .before .before .before .before in
+    let e = ap (λ (x : Step). x .answer) (sym (st .step .ensures)) ∙ left _ (c .before .match2 .keys2) (c .before .before .match .keys2) in
+    c .end .ensures ∙ laying.lay-end _ _ _ _ _ _ (st .before .loop .inv) e
+
+advance-requires : tie.Need-advance-requires Inv-loop μ-loop
+advance-requires c κs = c .before .before .before .before .before .loop .inv .placed
 
 returns-3 : tie.Need-returns-3 Inv-loop μ-loop
 returns-3 c =
-    let st = c .before .before .before .before .before .before in
-    let e = ap (λ (x : Step). x .answer) (sym (st .step .ensures)) ∙ left _ (c .before .before .before .match2 .keys2) (c .before .before .before .before .match .keys2) in
-    laying.lay-good _ _ _ _ _ _ (st .before .loop .inv) e _ (c .before .before .advance .ensures) (c .if1 .left)
-
-advance-requires-2 : tie.Need-advance-requires-2 Inv-loop μ-loop
-advance-requires-2 c κs = c .before .before .before .before .before .loop .inv .placed
-
-returns-4 : tie.Need-returns-4 Inv-loop μ-loop
-returns-4 c =
     let k = c .before .before .before in
     let st = k .before .before .before .before .before in
     let e = ap (λ (x : Step). x .answer) (sym (st .step .ensures)) ∙ k .before .before .answer .given .1 in
-    c .rest .ensures ∙ rw (st .step .ensures) (laying.lay-stray _ _ _ _ _ _ (st .before .loop .inv) _ _ _ e _ (k .advance2 .ensures) (c .before .if2 .taken))
+    c .rest .ensures ∙ rw (st .step .ensures) (laying.lay-stray _ _ _ _ _ _ (st .before .loop .inv) _ _ _ e _ (k .advance .ensures) (c .before .if1 .taken))
 
-returns-5 : tie.Need-returns-5 Inv-loop μ-loop
-returns-5 c =
+returns-4 : tie.Need-returns-4 Inv-loop μ-loop
+returns-4 c =
     let k = c .before .before .before .before .before in
     let st = k .before .before .before .before .before in
     let e = ap (λ (x : Step). x .answer) (sym (st .step .ensures)) ∙ k .before .before .answer .given .1 in
     c .rest2 .ensures
-    ∙ rw (st .step .ensures) (laying.lay-unlisted _ _ _ _ _ _ (st .before .loop .inv) _ _ _ e _ (k .advance2 .ensures) (c .before .before .before .if2 .left) (c .before .if3 .taken))
+    ∙ rw (st .step .ensures) (laying.lay-unlisted _ _ _ _ _ _ (st .before .loop .inv) _ _ _ e _ (k .advance .ensures) (c .before .before .before .if1 .left) (c .before .if2 .taken))
 
-returns-6 : tie.Need-returns-6 Inv-loop μ-loop
-returns-6 c =
+returns-5 : tie.Need-returns-5 Inv-loop μ-loop
+returns-5 c =
     let k = c .before .before .before .before .before .before .before in
     let st = k .before .before .before .before .before in
     let e = ap (λ (x : Step). x .answer) (sym (st .step .ensures)) ∙ k .before .before .answer .given .1 in
     c .rest3 .ensures
     ∙ rw (st .step .ensures)
-    (laying.lay-twice _ _ _ _ _ _ (st .before .loop .inv) _ _ _ e _ (k .advance2 .ensures) (c .before .before .before .before .before .if2 .left) (c .before .before .before .if3 .left) (c .before .if4 .taken))
+    (laying.lay-twice _ _ _ _ _ _ (st .before .loop .inv) _ _ _ e _ (k .advance .ensures) (c .before .before .before .before .before .if1 .left) (c .before .before .before .if2 .left) (c .before .if3 .taken))
 
 loop-less : tie.Need-loop-less Inv-loop μ-loop
 loop-less c =
     let k = c .before .before .before .before .before .before .before in
     let st = k .before .before .before .before .before in
     let e = ap (λ (x : Step). x .answer) (sym (st .step .ensures)) ∙ k .before .before .answer .given .1 in
-    rw (st .step .ensures) (laying.laying-less _ _ _ _ _ _ (st .before .loop .inv) _ _ _ e _ (k .advance2 .ensures))
+    rw (st .step .ensures) (laying.laying-less _ _ _ _ _ _ (st .before .loop .inv) _ _ _ e _ (k .advance .ensures))
 
 loop-again : tie.Need-loop-again Inv-loop μ-loop
 loop-again c =
@@ -79,9 +73,9 @@ loop-again c =
     let st = k .before .before .before .before .before in
     let e = ap (λ (x : Step). x .answer) (sym (st .step .ensures)) ∙ k .before .before .answer .given .1 in
     rw (st .step .ensures)
-    (laying.laying-more _ _ _ _ _ _ (st .before .loop .inv) _ _ _ e _ (k .advance2 .ensures) (c .before .before .before .before .before .if2 .left) (c .before .if4 .left))
+    (laying.laying-more _ _ _ _ _ _ (st .before .loop .inv) _ _ _ e _ (k .advance .ensures) (c .before .before .before .before .before .if1 .left) (c .before .if3 .left))
 
 pub lay-spec : {M : Type 1} → statement M
 lay-spec =
     tie.close
-    (tie.spec Inv-loop μ-loop (λ c κs. search needs) loop-holds (λ c κs. search needs) (λ c. search needs) (λ c. search needs) returns advance-requires returns-2 returns-3 advance-requires-2 (λ c κs. search needs) returns-4 (λ c κs. search needs) returns-5 (λ c κs. search needs) returns-6 (λ c. search needs) loop-less loop-again)
+    (tie.spec Inv-loop μ-loop (λ c κs. search needs) loop-holds (λ c κs. search needs) (λ c. search needs) (λ c. search needs) returns end-requires returns-2 advance-requires (λ c κs. search needs) returns-3 (λ c κs. search needs) returns-4 (λ c κs. search needs) returns-5 (λ c. search needs) loop-less loop-again)

@@ -1,36 +1,20 @@
--- The marked examples hold and the wrong checks are refuted, by computing. Assumes nothing.
+-- The wrong checks are refuted, by computing. Assumes nothing.
 use mathlib.Core.Path.{_≡_, refl}
 use mathlib.Core.Bool.{Bool, true, false, _&&_}
-use mathlib.Core.List.{List}
-use Prim.Native.Nat.{ℕ, _≤_}
+use Prim.Native.Nat.{ℕ}
 use native.Mathlib.Omega.{arith}
-use borrow.Author.Tests.{le-ltb, eq-eqb}
-use lib.ListN.{length}
+use borrow.Author.Tests.{eq-eqb}
 use lib.Dec.{eqb}
 use Rattle.fields.specs.Numbers.{val, big}
 use Rattle.headers.specs.Tests.{first}
-use Rattle.objects.specs.declared.Walked.{Walked}
-use Rattle.objects.specs.Walk.{walkOf}
-use Rattle.objects.specs.Named.{Entry}
 use Rattle.slips.specs.declared.pass.Verdict.{Verdict}
 use Rattle.slips.specs.declared.pass.Verdict.the-variants.{Accepted, Refused}
 use Rattle.slips.specs.Cut.{shapeOk, faultOf, cutOf}
 use Rattle.slips.specs.Soonest.{troubleOf}
-use Rattle.slips.specs.Check.{longest, objectsOf, judgedOf, checkOf}
-use Rattle.slips.specs.Marked.{m11, m12, m14, forty, marked, answers, told}
+use Rattle.slips.specs.Samples.{m11, m12, forty}
 use Rattle.slips.specs.Wrong.{threefold, wrongs, AllDiffer}
 
--- all that the check sees of a log of allowed length is its walk and its objects
-pub shown : (s b : List ℕ) {w : Walked} {os : List Entry} → length s ≤ longest → walkOf s ≡ w → objectsOf s ≡ os → checkOf s b ≡ judgedOf w os (cutOf b)
-unfolding checkOf
-shown s b l p q = rw (le-ltb longest (length s) l, p, q)
-
-pub marked-hold : answers marked ≡ told marked
-unfolding marked m11 m12 m14 forty cutOf faultOf shapeOk first big val troubleOf
-marked-hold = refl
-
 -- verdicts that differ
-
 same : Verdict → Verdict → Bool
 same (Accepted n) (Accepted m) = eqb n m
 same (Accepted n) (Refused k p) = false
@@ -50,5 +34,5 @@ differ {v} {u} f e =
     omega arith
 
 pub all-refuted : AllDiffer wrongs
-unfolding wrongs threefold same m11 m12 m14 forty cutOf faultOf shapeOk first big val troubleOf
+unfolding wrongs threefold same m11 m12 forty cutOf faultOf shapeOk first big val troubleOf
 all-refuted = (differ refl, (differ refl, (differ refl, (differ refl, (differ refl, (differ refl, (differ refl, tt)))))))
