@@ -47,16 +47,7 @@ fn every_type_finds_its_row() {
 
 #[test]
 fn size_of_every_type() {
-    let allowed: [(u32, &[u32]); 7] = [
-        (1, &[48]),
-        (3, &[36]),
-        (4, &[60]),
-        (50, &[330]),
-        (57, &[164, 168, 184]),
-        (62, &[52]),
-        (103, &[48]),
-    ];
-    for (kind, sizes) in allowed {
+    for (kind, sizes) in SIZES {
         for size in 0..400 {
             let expected = if sizes.contains(&size) {
                 Ok(1)

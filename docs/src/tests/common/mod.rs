@@ -3,6 +3,17 @@
 
 use mshelovat_reference::layout::Refusal;
 
+/// The types whose sizes do not depend on a frame, with these sizes.
+pub const SIZES: [(u32, &[u32]); 7] = [
+    (1, &[48]),
+    (3, &[36]),
+    (4, &[60]),
+    (50, &[330]),
+    (57, &[164, 168, 184]),
+    (62, &[52]),
+    (103, &[48]),
+];
+
 /// Bytes from hex text; blanks do not count.
 pub fn hex(text: &str) -> Vec<u8> {
     let digits: Vec<char> = text.chars().filter(|c| !c.is_whitespace()).collect();
