@@ -22,7 +22,8 @@ use Rattle.objects.specs.Kinds.{Kind, Record, layoutOf}
 use Rattle.objects.specs.Items.{known}
 use Rattle.outcomes.specs.declared.Written.{Written}
 use Rattle.outcomes.specs.declared.Written.the-variants.{Refused}
-use Rattle.outcomes.specs.Writes.{refusalBy, contentOk, Outcome}
+use Rattle.outcomes.specs.Writes.{Outcome}
+use Rattle.outcomes.specs.Tested.{refusalBy, rulesOk}
 use Rattle.outcomes.specs.Closed.{Closed}
 use Rattle.outcomes.proofs.Writing.{refused, refusal-is, Taken, taken, closed}
 use Rattle.ethernet_records.specs.Framed.{frameSize}
@@ -65,14 +66,14 @@ module _ (kind : ℕ) (c : Carries kind) where
 
 -- the two ways out for a record of type k; the code's `kind` and `size` are what it found
 module _ (k : Kind) {bytes : Record k → List ℕ} (h : Holds k bytes) (r : Record k) {kind size : ℕ} (e : size ≡ frameSize (length (bytes r))) (q : kind ≡ layoutOf k .kind) where
-  pub framed-refused : {m : ℕ} {x : List ℕ} → m ≡ refusalBy kind (layoutOf k .header r .unit) (contentOk k r) size (length x) → (m ≡ 0 → ⊥)
+  pub framed-refused : {m : ℕ} {x : List ℕ} → m ≡ refusalBy kind (layoutOf k .header r .unit) (rulesOk k r) size (length x) → (m ≡ 0 → ⊥)
       → Outcome (known k r) (Refused m 0) x x
   framed-refused {x = x} f z =
       let l : headerLength + structureLength + length (bytes r) ≡ headerLength + length (layoutOf k .body r) = omega (arith, h .long r) in
       let g = (rw (q, e) at f) ∙ same-refusal (layoutOf k .kind) (h .carries) _ _ (length (bytes r)) (length x) in
       refused (known k r) (refusal-is k r l (length x) g) z
 
-  pub framed-closed : {m : ℕ} {w : Written} {x y z : List ℕ} → m ≡ refusalBy kind (layoutOf k .header r .unit) (contentOk k r) size (length x) → m ≡ 0
+  pub framed-closed : {m : ℕ} {w : Written} {x y z : List ℕ} → m ≡ refusalBy kind (layoutOf k .header r .unit) (rulesOk k r) size (length x) → m ≡ 0
       → layoutOf k .Valid r → Wrote 0 (header kind size (layoutOf k .header r) ++ layoutOf k .body r) x y → Closed size w y z → Outcome (known k r) w x z
   framed-closed f z v p d =
       let l : size ≡ headerLength + length (layoutOf k .body r) = omega (arith, short e (taken f z) .sized, h .long r) in

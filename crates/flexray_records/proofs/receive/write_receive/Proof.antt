@@ -13,7 +13,7 @@ use Rattle.flexray.proofs.KnownLaws.{receive-known}
 use Rattle.flexray.proofs.ReceiveLaws.{receive-length}
 use Rattle.objects.specs.Kinds.{receive}
 use Rattle.objects.specs.Items.{known}
-use Rattle.outcomes.specs.Writes.{refusalBy}
+use Rattle.outcomes.specs.Tested.{refusalBy}
 use Rattle.outcomes.proofs.Writing.{refused, refusal-is, taken, closed}
 use Rattle.flexray_records.proofs.receive.write_receive.Statement.{statement}
 use Rattle.flexray_records.proofs.receive.write_receive.Tie as tie

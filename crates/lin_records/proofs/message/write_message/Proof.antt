@@ -15,7 +15,7 @@ use Rattle.lin.proofs.KnownLaws.{message-known}
 use Rattle.lin.proofs.MessageLaws.{message-length}
 use Rattle.objects.specs.Kinds.{linMessage}
 use Rattle.objects.specs.Items.{known}
-use Rattle.outcomes.specs.Writes.{refusalBy}
+use Rattle.outcomes.specs.Tested.{refusalBy}
 use Rattle.outcomes.proofs.Writing.{refused, refusal-is, taken, closed}
 use Rattle.lin_records.proofs.TailFits.{tail-short}
 use Rattle.lin_records.proofs.message.write_message.Statement.{statement}
