@@ -1,6 +1,6 @@
 /* Mshelovat on files of any size, over the proved calls: mshelovat list LOG, mshelovat check LOG BUNDLE.
- * Prints what the lister and the desk program print. Exit status: 0 accepted, 1 refused, 2 where the usage is wrong, a file
- * can't be read or the output can't be written. No file may be cut while it is read. */
+ * Prints what the lister and the desk program print. Exit status: 0 accepted, 1 refused, 2 where the usage is wrong, a
+ * file can't be read or the output can't be written. No file may be cut while it is read. */
 #include <stddef.h>
 #include <stdint.h>
 
@@ -12,8 +12,8 @@ struct file {
     size_t length;
 };
 
-/* Maps an open file to read it. An empty one, which no map takes, stands on a byte of our own; a length of 0 is believed where
- * a read ends at once, since a folder may have it too. 0 where that fails. */
+/* Maps an open file to read it. An empty one, which no map takes, stands on a byte of our own; a length of 0 is
+ * believed where a read ends at once, since a folder may have it too. 0 where that fails. */
 static int map_open(int fd, struct file *f)
 {
     static uint8_t nothing[1];

@@ -1,15 +1,16 @@
 /* Mshelovat for C: the calls of the proved crate `exported`, linked from libexported.a (`rt staticlib exported`). The
  * archive is x86-64 and does not link into native programs on Arm.
  *
- * Each call returns a number and writes its values to the front of the numbers lent to it; what stands behind them stays
- * as it was, and so it is with lent bytes and entries. Numbers: 0 is yes; 1 to 9 refuse the log, 7, 9, 10 and 11 a write
- * and 20 to 28 the slips, as document 01 lists them; MSHELOVAT_ROOM says that too few numbers were lent, or too few bytes:
- * where too few numbers, nothing is written; MSHELOVAT_DONE is the log's end, MSHELOVAT_OTHER an object of another type.
+ * Each call returns a number and writes its values to the front of the numbers lent to it; what stands behind them
+ * stays as it was, and so it is with lent bytes and entries. Numbers: 0 is yes; 1 to 9 refuse the log, 7, 9, 10 and 11
+ * a write and 20 to 28 the slips, as docs/FORMAT.md lists them; MSHELOVAT_ROOM says that too few numbers were lent, or
+ * too few bytes: where too few numbers, nothing is written; MSHELOVAT_DONE is the log's end, MSHELOVAT_OTHER an object
+ * of another type.
  *
  * No call asks for more than what C itself asks: a pointer is not null and its bytes are readable (what is lent to be
- * written, writable) for the call's time, also where the length is 0; lent numbers and entries stand on 8 bytes; and what
- * a call writes lies apart from all else that is handed to it. No call keeps a pointer, allocates, or writes anything but
- * what is lent for it. */
+ * written, writable) for the call's time, also where the length is 0; lent numbers and entries stand on 8 bytes; and
+ * what a call writes lies apart from all else that is handed to it. No call keeps a pointer, allocates, or writes
+ * anything but what is lent for it. */
 #ifndef MSHELOVAT_H
 #define MSHELOVAT_H
 
@@ -41,8 +42,8 @@ uint32_t mshelovat_walk(const uint8_t *log, size_t log_length, uint64_t *out, si
 uint32_t mshelovat_step(const uint8_t *log, size_t log_length, size_t at, uint64_t *out, size_t out_count);
 
 /* The objects from position `at` on, three numbers each: start, size without padding, type. `entries_count` counts
- * numbers; one or two behind the last whole entry are left alone. Lend two numbers in out: how many objects were listed,
- * and the position where the next call goes on.
+ * numbers; one or two behind the last whole entry are left alone. Lend two numbers in out: how many objects were
+ * listed, and the position where the next call goes on.
  * 0: there is no room for another object, whether or not one is there.
  * MSHELOVAT_DONE: all objects up to the log's end are listed.
  * 1 to 9: the object at the position, out[1], is refused; those before it are listed. */
@@ -55,8 +56,8 @@ uint32_t mshelovat_list(const uint8_t *log, size_t log_length, size_t at, uint64
 uint32_t mshelovat_check(const uint8_t *log, size_t log_length, const uint8_t *bundle, size_t bundle_length,
                          uint64_t *out, size_t out_count);
 
-/* The object of type `kind` at position `at`, copied to the front of `bytes` without its padding, in the layout of the
- * type's document. Lend two numbers.
+/* The object of type `kind` at position `at`, copied to the front of `bytes` without its padding, in its type's layout
+ * (docs/FORMAT.md). Lend two numbers.
  * 0: out is its size and the position behind its padding.
  * MSHELOVAT_OTHER: an object of another type was let through; out is 0 and the position behind its padding.
  * MSHELOVAT_DONE: `at` is exactly the log's end; out is 0 and at.

@@ -1,5 +1,5 @@
-/* The calls of x86-64 Linux's C library that host/mshelovat.c makes. The kit has no C headers, and those of an Arm machine are
- * Arm's: so the calls are declared here, with x86-64's values. */
+/* The calls of x86-64 Linux's C library that host/mshelovat.c makes. The kit has no C headers, and those of an Arm
+ * machine are Arm's: so the calls are declared here, with x86-64's values. */
 #ifndef HOST_LIBC_H
 #define HOST_LIBC_H
 

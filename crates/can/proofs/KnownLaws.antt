@@ -1,5 +1,5 @@
--- 01: "a record that 7 and 9 let through is valid". What is known of a record in memory, as a function's `c .good` has it, is
--- that its fields fit. Assumes nothing.
+-- 01: "a record that 7 and 9 let through is valid". What is known of a record in memory, as a function's `c .good` has
+-- it, is that its fields fit. Assumes nothing.
 use mathlib.Core.Path.{_≡_}
 use mathlib.Core.Bool.{true}
 use mathlib.Core.List.{[], _∷_}

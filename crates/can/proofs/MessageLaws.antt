@@ -12,9 +12,8 @@ use Rattle.fields.proofs.Reading.{more, got, fits}
 use Rattle.fields.proofs.Elements.{length-nums, array-nums, nums-fit, nums-array}
 use Rattle.headers.specs.declared.header.Header.{Header}
 use Rattle.headers.specs.Header.{Fit}
-use Rattle.headers.specs.Types.{typeList, sizesIn}
+use Rattle.headers.specs.Types.{canMessage}
 use Rattle.headers.specs.Layout.{Lawful}
-use Rattle.headers.proofs.TypeList.{listed-exact}
 use Rattle.headers.proofs.Heads.{clear, passes}
 use Rattle.can.specs.declared.message.Message.{Message}
 use Rattle.can.specs.Message.{message, messageFault, ValidMessage, messageLayout}
@@ -64,7 +63,7 @@ module _ (h : Header) (b : List ℕ) (f : Fit h) (bs : Bytes b) (long : length b
         bytes = nums-fit 1 b bs 8 8 (le-of-eq (sym long));
       }
 
-pub message-laws : Lawful messageLayout
-unfolding typeList sizesIn messageOf
+pub message-laws : Lawful canMessage messageLayout
+unfolding messageOf
 message-laws =
-    one-size messageLayout 16 refl (listed-exact 1) (λ r v. v .header) (λ h b. refl) message-length message-back message-forth message-no-fault message-valid
+    one-size canMessage messageLayout 16 refl (λ r v. v .header) (λ h b. refl) message-length message-back message-forth message-no-fault message-valid

@@ -12,9 +12,8 @@ use Rattle.fields.proofs.Reading.{more, got, fits, blank}
 use Rattle.fields.proofs.Zeros.{zero-all}
 use Rattle.headers.specs.declared.header.Header.{Header}
 use Rattle.headers.specs.Header.{Fit}
-use Rattle.headers.specs.Types.{typeList, sizesIn}
+use Rattle.headers.specs.Types as kind
 use Rattle.headers.specs.Layout.{Lawful}
-use Rattle.headers.proofs.TypeList.{listed-exact}
 use Rattle.headers.proofs.Heads.{clear, passes}
 use Rattle.can.specs.declared.overload.Overload.{Overload}
 use Rattle.can.specs.Overload.{overload, overloadFault, ValidOverload, overloadLayout}
@@ -45,7 +44,7 @@ module _ (h : Header) (b : List ℕ) (f : Fit h) (bs : Bytes b) (long : length b
   unfolding overloadOf overloadFault
   overload-valid = record { header = f; unit = clear _ _ _ z .0; channel = fits b bs 4 (le-of-eq (sym long)) 2 0 (lit≤ tt) }
 
-pub overload-laws : Lawful overloadLayout
-unfolding typeList sizesIn overloadOf
+pub overload-laws : Lawful kind.overload overloadLayout
+unfolding overloadOf
 overload-laws =
-    one-size overloadLayout 4 refl (listed-exact 3) (λ r v. v .header) (λ h b. refl) overload-length overload-back overload-forth overload-no-fault overload-valid
+    one-size kind.overload overloadLayout 4 refl (λ r v. v .header) (λ h b. refl) overload-length overload-back overload-forth overload-no-fault overload-valid

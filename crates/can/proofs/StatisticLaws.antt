@@ -1,4 +1,5 @@
--- The laws of the CAN statistic: what is written is read, and what was read is written, field by field. Assumes nothing.
+-- The laws of the CAN statistic: what is written is read, and what was read is written, field by field. Assumes
+-- nothing.
 use mathlib.Core.Path.{_≡_, refl, sym}
 use mathlib.Core.List.{List}
 use Prim.Native.Nat.{ℕ}
@@ -11,9 +12,8 @@ use Rattle.fields.proofs.Numbers.{val-le}
 use Rattle.fields.proofs.Reading.{more, got, fits}
 use Rattle.headers.specs.declared.header.Header.{Header}
 use Rattle.headers.specs.Header.{Fit}
-use Rattle.headers.specs.Types.{typeList, sizesIn}
+use Rattle.headers.specs.Types as kind
 use Rattle.headers.specs.Layout.{Lawful}
-use Rattle.headers.proofs.TypeList.{listed-exact}
 use Rattle.headers.proofs.Heads.{clear, passes}
 use Rattle.can.specs.declared.statistic.Statistic.{Statistic}
 use Rattle.can.specs.Statistic.{counters, statistic, statisticFault, ValidStatistic, statisticLayout}
@@ -69,7 +69,7 @@ module _ (h : Header) (b : List ℕ) (f : Fit h) (bs : Bytes b) (long : length b
         overloads = g 4 24 (lit≤ tt);
       }
 
-pub statistic-laws : Lawful statisticLayout
-unfolding typeList sizesIn statisticOf
+pub statistic-laws : Lawful kind.statistic statisticLayout
+unfolding statisticOf
 statistic-laws =
-    one-size statisticLayout 28 refl (listed-exact 4) (λ r v. v .header) (λ h b. refl) statistic-length statistic-back statistic-forth statistic-no-fault statistic-valid
+    one-size kind.statistic statisticLayout 28 refl (λ r v. v .header) (λ h b. refl) statistic-length statistic-back statistic-forth statistic-no-fault statistic-valid

@@ -1,4 +1,5 @@
--- Type 1, CAN message, as bytes: what Fields reads, the other way round; its tests as the code makes them; which messages are valid.
+-- Type 1, CAN message, as bytes: what Fields reads, the other way round; its tests as the code makes them; which
+-- messages are valid.
 use Prim.Native.Nat.{ℕ, _<_, _^_}
 use mathlib.Core.Path.{_≡_}
 use mathlib.Core.Bool.{true}
@@ -7,7 +8,7 @@ use lib.ListN.{length, getD}
 use Rattle.fields.specs.Digits.{le, array}
 use Rattle.headers.specs.declared.header.Header.{Header}
 use Rattle.headers.specs.Header.{Fit}
-use Rattle.headers.specs.Tests.{first}
+use Rattle.headers.specs.HeadTests.{first}
 use Rattle.headers.specs.Format.{unitOk}
 use Rattle.headers.specs.Layout.{Layout}
 use Rattle.can.specs.declared.message.Message.{Message}
@@ -37,4 +38,4 @@ pub record ValidMessage (r : Message) : Type 0 where
 
 abbrev pub messageLayout : Layout Message
 messageLayout =
-    record { kind = 1; header = λ r. r .header; body = message; of = messageOf; fault = messageFault; Valid = ValidMessage }
+    record { header = λ r. r .header; body = message; of = messageOf; fault = messageFault; Valid = ValidMessage }

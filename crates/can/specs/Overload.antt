@@ -1,4 +1,5 @@
--- Type 3, CAN overload, as bytes: what Fields reads, the other way round; its tests as the code makes them; which overloads are valid.
+-- Type 3, CAN overload, as bytes: what Fields reads, the other way round; its tests as the code makes them; which
+-- overloads are valid.
 use Prim.Native.Nat.{ℕ, _<_, _^_}
 use mathlib.Core.Path.{_≡_}
 use mathlib.Core.Bool.{true}
@@ -7,7 +8,7 @@ use Rattle.fields.specs.Numbers.{part, zeros, allZero}
 use Rattle.fields.specs.Digits.{le}
 use Rattle.headers.specs.declared.header.Header.{Header}
 use Rattle.headers.specs.Header.{Fit}
-use Rattle.headers.specs.Tests.{first}
+use Rattle.headers.specs.HeadTests.{first}
 use Rattle.headers.specs.Format.{unitOk}
 use Rattle.headers.specs.Layout.{Layout}
 use Rattle.can.specs.declared.overload.Overload.{Overload}
@@ -30,4 +31,4 @@ pub record ValidOverload (r : Overload) : Type 0 where
 
 abbrev pub overloadLayout : Layout Overload
 overloadLayout =
-    record { kind = 3; header = λ r. r .header; body = overload; of = overloadOf; fault = overloadFault; Valid = ValidOverload }
+    record { header = λ r. r .header; body = overload; of = overloadOf; fault = overloadFault; Valid = ValidOverload }

@@ -1,4 +1,5 @@
--- Type 4, CAN statistic, as bytes: what Fields reads, the other way round; its tests as the code makes them; which statistics are valid.
+-- Type 4, CAN statistic, as bytes: what Fields reads, the other way round; its tests as the code makes them; which
+-- statistics are valid.
 use Prim.Native.Nat.{ℕ, _<_, _^_}
 use mathlib.Core.Path.{_≡_}
 use mathlib.Core.Bool.{true}
@@ -6,7 +7,7 @@ use mathlib.Core.List.{List, _++_}
 use Rattle.fields.specs.Digits.{le}
 use Rattle.headers.specs.declared.header.Header.{Header}
 use Rattle.headers.specs.Header.{Fit}
-use Rattle.headers.specs.Tests.{first}
+use Rattle.headers.specs.HeadTests.{first}
 use Rattle.headers.specs.Format.{unitOk}
 use Rattle.headers.specs.Layout.{Layout}
 use Rattle.can.specs.declared.statistic.Statistic.{Statistic}
@@ -46,4 +47,4 @@ pub record ValidStatistic (r : Statistic) : Type 0 where
 
 abbrev pub statisticLayout : Layout Statistic
 statisticLayout =
-    record { kind = 4; header = λ r. r .header; body = statistic; of = statisticOf; fault = statisticFault; Valid = ValidStatistic }
+    record { header = λ r. r .header; body = statistic; of = statisticOf; fault = statisticFault; Valid = ValidStatistic }

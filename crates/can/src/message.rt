@@ -3,6 +3,7 @@ ghost use mathlib.Core.Path.{_≡_};
 ghost use Prim.Native.Nat.{_+_, _≤_};
 ghost use lib.ListN.{length};
 ghost use Rattle.fields.specs.Written.{Wrote};
+ghost use Rattle.headers.specs.Format.{headerOf, bodyOf};
 ghost use Rattle.can.specs.Message.{message, messageFault};
 ghost use Rattle.can.specs.Fields.{messageOf};
 
@@ -22,13 +23,14 @@ pub fn message_fault(h: headers::Header, b: &[u8]) -> u32
     headers::first(7, headers::unit_ok(h.unit), 0)
 }
 
-// The message of a header and a body.
-pub fn get_message(h: headers::Header, b: &[u8]) -> Message
-    requires { ⌜ 16 ≤ length (now b) ⌝ }
-    ensures { λ r. ⌜ r ≡ messageOf h (now (b .entry)) ⌝ }
+// The message that an object is.
+pub fn get_message(o: &[u8]) -> Message
+    requires { ⌜ 48 ≤ length (now o) ⌝ }
+    ensures { λ r. ⌜ r ≡ messageOf (headerOf (now (o .entry))) (bodyOf (now (o .entry))) ⌝ }
 {
+    let b = headers::body(o);
     Message {
-        header: h,
+        header: headers::get_header(o),
         channel: fields::get16(b, 0),
         flags: fields::get8(b, 2),
         dlc: fields::get8(b, 3),

@@ -3,6 +3,7 @@ ghost use mathlib.Core.Path.{_≡_};
 ghost use Prim.Native.Nat.{_+_, _≤_};
 ghost use lib.ListN.{length};
 ghost use Rattle.fields.specs.Written.{Wrote};
+ghost use Rattle.headers.specs.Format.{headerOf, bodyOf};
 ghost use Rattle.can.specs.Overload.{overload, overloadFault};
 ghost use Rattle.can.specs.Fields.{overloadOf};
 
@@ -20,13 +21,14 @@ pub fn overload_fault(h: headers::Header, b: &[u8]) -> u32
     headers::first(7, headers::unit_ok(h.unit), headers::first(8, reserved, 0))
 }
 
-// The overload of a header and a body.
-pub fn get_overload(h: headers::Header, b: &[u8]) -> Overload
-    requires { ⌜ 4 ≤ length (now b) ⌝ }
-    ensures { λ r. ⌜ r ≡ overloadOf h (now (b .entry)) ⌝ }
+// The overload that an object is.
+pub fn get_overload(o: &[u8]) -> Overload
+    requires { ⌜ 36 ≤ length (now o) ⌝ }
+    ensures { λ r. ⌜ r ≡ overloadOf (headerOf (now (o .entry))) (bodyOf (now (o .entry))) ⌝ }
 {
+    let b = headers::body(o);
     Overload {
-        header: h,
+        header: headers::get_header(o),
         channel: fields::get16(b, 0),
     }
 }

@@ -3,6 +3,7 @@ ghost use mathlib.Core.Path.{_≡_};
 ghost use Prim.Native.Nat.{_+_, _≤_};
 ghost use lib.ListN.{length};
 ghost use Rattle.fields.specs.Written.{Wrote};
+ghost use Rattle.headers.specs.Format.{headerOf, bodyOf};
 ghost use Rattle.can.specs.Statistic.{counters, statistic, statisticFault};
 ghost use Rattle.can.specs.Fields.{statisticOf};
 
@@ -26,13 +27,14 @@ pub fn statistic_fault(h: headers::Header, b: &[u8]) -> u32
     headers::first(7, headers::unit_ok(h.unit), 0)
 }
 
-// The statistic of a header and a body.
-pub fn get_statistic(h: headers::Header, b: &[u8]) -> Statistic
-    requires { ⌜ 28 ≤ length (now b) ⌝ }
-    ensures { λ r. ⌜ r ≡ statisticOf h (now (b .entry)) ⌝ }
+// The statistic that an object is.
+pub fn get_statistic(o: &[u8]) -> Statistic
+    requires { ⌜ 60 ≤ length (now o) ⌝ }
+    ensures { λ r. ⌜ r ≡ statisticOf (headerOf (now (o .entry))) (bodyOf (now (o .entry))) ⌝ }
 {
+    let b = headers::body(o);
     Statistic {
-        header: h,
+        header: headers::get_header(o),
         channel: fields::get16(b, 0),
         load: fields::get16(b, 2),
         standard_data: fields::get32(b, 4),

@@ -1,5 +1,5 @@
--- A read of each type answers with a record exactly where that record stands in the log as a valid item: one theorem, at each
--- type. Assumes nothing.
+-- A read of each type answers with a record exactly where that record stands in the log as a valid item: one theorem,
+-- at each type. Assumes nothing.
 use mathlib.Core.Path.{_≡_}
 use mathlib.Core.Logic.{_↔_}
 use mathlib.Core.List.{List}
@@ -8,16 +8,15 @@ use Rattle.fields.specs.Numbers.{Bytes}
 use Rattle.can.specs.declared.message.Message.{Message}
 use Rattle.can.specs.declared.overload.Overload.{Overload}
 use Rattle.can.specs.declared.statistic.Statistic.{Statistic}
-use Rattle.objects.specs.Kinds.{message, overload, statistic}
-use Rattle.objects.specs.Items.{known}
-use Rattle.objects.proofs.Standing.{Stands}
-use Rattle.outcomes.specs.declared.Told.the-variants as told
+use Rattle.headers.specs.Types.{canMessage, overload, statistic}
+use Rattle.objects.specs.Items.{known, Stands}
+use Rattle.outcomes.specs.declared.ReadAnswer.the-variants as told
 use Rattle.outcomes.specs.Reads.{lookAt, recordAt}
 use Rattle.outcomes.proofs.Reading.{read-exact}
 
 module _ (s : List ℕ) (at : ℕ) (bs : Bytes s) where
-  pub message-exact : (r : Message) → ((lookAt s at 1 .told ≡ told.Record) × (recordAt message s at ≡ r)) ↔ Stands s at (known message r)
-  message-exact r = read-exact message s at bs r
+  pub message-exact : (r : Message) → ((lookAt s at 1 .told ≡ told.Record) × (recordAt canMessage s at ≡ r)) ↔ Stands s at (known canMessage r)
+  message-exact r = read-exact canMessage s at bs r
 
   pub overload-exact : (r : Overload) → ((lookAt s at 3 .told ≡ told.Record) × (recordAt overload s at ≡ r)) ↔ Stands s at (known overload r)
   overload-exact r = read-exact overload s at bs r

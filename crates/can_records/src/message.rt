@@ -1,47 +1,38 @@
 // CAN message, type 1.
 use headers::Header;
 use objects::Cursor;
-use outcomes::Told;
+use outcomes::ReadAnswer;
 use outcomes::Written;
 ghost use mathlib.Core.Path.{_≡_};
-ghost use Prim.Native.Nat.{_≤_};
-ghost use lib.ListN.{length};
-ghost use Rattle.objects.specs.Kinds.{message};
+ghost use Rattle.headers.specs.Types.{canMessage};
 ghost use Rattle.objects.specs.Items.{known};
-ghost use Rattle.outcomes.specs.Reads.{recordOf, recordIn, Reads};
+ghost use Rattle.outcomes.specs.Reads.{recordIn, Reads};
 ghost use Rattle.outcomes.specs.Writes.{Outcome};
 
-const KIND: u32 = 1;
+const KIND: u32 = headers::CAN_MESSAGE;
 
 const SIZE: usize = 48;
 
 // What a read is told, the next cursor, and the record: zeros but where it is told of one.
 pub struct MessageRead {
-    pub told: Told,
+    pub told: ReadAnswer,
     pub next: Cursor,
     pub value: can::Message,
 }
 
-fn message_of(o: &[u8]) -> can::Message
-    requires { ⌜ 48 ≤ length (now o) ⌝ }
-    ensures { λ r. ⌜ r ≡ recordOf message (now (o .entry)) ⌝ }
-{
-    can::get_message(headers::get_header(o), headers::body(o))
-}
-
 // The CAN message that an object's bytes are: zeros where they are too few.
 pub fn message_in(o: &[u8]) -> can::Message
-    ensures { λ r. ⌜ r ≡ recordIn message (now (o .entry)) ⌝ }
+    ensures { λ r. ⌜ r ≡ recordIn canMessage (now (o .entry)) ⌝ }
 {
     if o.len() < SIZE {
-        return message_of(&[0u8; SIZE]);
+        return can::get_message(&[0u8; SIZE]);
     }
-    message_of(o)
+    can::get_message(o)
 }
 
 // The message at the cursor.
 pub fn read_message(log: &[u8], c: Cursor) -> MessageRead
-    ensures { λ r. ⌜ Reads message (now (log .entry)) (c .at) (r .told) (r .next) (r .value) ⌝ }
+    ensures { λ r. ⌜ Reads canMessage (now (log .entry)) (c .at) (r .told) (r .next) (r .value) ⌝ }
 {
     let l = outcomes::look(log, c, KIND);
     let value = message_in(outcomes::cut(log, l));
@@ -52,14 +43,13 @@ pub fn read_message(log: &[u8], c: Cursor) -> MessageRead
 
 // Writes a message with its padding to the front of `out`.
 pub fn write_message(r: can::Message, out: &mut [u8]) -> Written
-    ensures { λ w. ⌜ Outcome (known message r) w (now (out .entry)) (now (out .exit)) ⌝ }
+    ensures { λ w. ⌜ Outcome (known canMessage r) w (now (out .entry)) (now (out .exit)) ⌝ }
 {
     let h = r.header;
-    let number = outcomes::refuse(KIND, h.unit, true, SIZE as u32, out.len());
+    let number = outcomes::begin(out, KIND, h, true, SIZE as u32);
     if number != 0 {
         return Written::Refused { number, place: 0 };
     }
-    headers::put_header(out, KIND, SIZE as u32, h);
     can::put_message(out, Header::LENGTH, r);
-    outcomes::close(out, SIZE as u32)
+    outcomes::pad(out, SIZE as u32)
 }

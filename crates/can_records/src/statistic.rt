@@ -1,32 +1,23 @@
 // CAN statistic, type 4.
 use headers::Header;
 use objects::Cursor;
-use outcomes::Told;
+use outcomes::ReadAnswer;
 use outcomes::Written;
 ghost use mathlib.Core.Path.{_≡_};
-ghost use Prim.Native.Nat.{_≤_};
-ghost use lib.ListN.{length};
-ghost use Rattle.objects.specs.Kinds.{statistic};
+ghost use Rattle.headers.specs.Types.{statistic};
 ghost use Rattle.objects.specs.Items.{known};
-ghost use Rattle.outcomes.specs.Reads.{recordOf, recordIn, Reads};
+ghost use Rattle.outcomes.specs.Reads.{recordIn, Reads};
 ghost use Rattle.outcomes.specs.Writes.{Outcome};
 
-const KIND: u32 = 4;
+const KIND: u32 = headers::CAN_STATISTIC;
 
 const SIZE: usize = 60;
 
 // What a read is told, the next cursor, and the record: zeros but where it is told of one.
 pub struct StatisticRead {
-    pub told: Told,
+    pub told: ReadAnswer,
     pub next: Cursor,
     pub value: can::Statistic,
-}
-
-fn statistic_of(o: &[u8]) -> can::Statistic
-    requires { ⌜ 60 ≤ length (now o) ⌝ }
-    ensures { λ r. ⌜ r ≡ recordOf statistic (now (o .entry)) ⌝ }
-{
-    can::get_statistic(headers::get_header(o), headers::body(o))
 }
 
 // The statistic that an object's bytes are: zeros where they are too few.
@@ -34,9 +25,9 @@ pub fn statistic_in(o: &[u8]) -> can::Statistic
     ensures { λ r. ⌜ r ≡ recordIn statistic (now (o .entry)) ⌝ }
 {
     if o.len() < SIZE {
-        return statistic_of(&[0u8; SIZE]);
+        return can::get_statistic(&[0u8; SIZE]);
     }
-    statistic_of(o)
+    can::get_statistic(o)
 }
 
 // The statistic at the cursor.
@@ -55,11 +46,10 @@ pub fn write_statistic(r: can::Statistic, out: &mut [u8]) -> Written
     ensures { λ w. ⌜ Outcome (known statistic r) w (now (out .entry)) (now (out .exit)) ⌝ }
 {
     let h = r.header;
-    let number = outcomes::refuse(KIND, h.unit, true, SIZE as u32, out.len());
+    let number = outcomes::begin(out, KIND, h, true, SIZE as u32);
     if number != 0 {
         return Written::Refused { number, place: 0 };
     }
-    headers::put_header(out, KIND, SIZE as u32, h);
     can::put_statistic(out, Header::LENGTH, r);
-    outcomes::close(out, SIZE as u32)
+    outcomes::pad(out, SIZE as u32)
 }

@@ -14,9 +14,11 @@ use Rattle.objects.specs.declared.Answer.{Answer}
 use Rattle.objects.specs.declared.Answer.the-variants.{Object, Done, Refused}
 use Rattle.objects.specs.Next.{nextAt}
 use Rattle.objects.specs.Walk.{walkOf}
+use Rattle.objects.specs.Replies.{walkReply}
 use Rattle.slips.specs.Check.{checkOf}
+use Rattle.slips.specs.Replies.{checkReply}
 use Rattle.cases.specs.declared.replies.Reply.{Reply}
-use Rattle.cases.specs.Replies.{replied, stepReply, walkReply, checkReply, replyTo, replyOf}
+use Rattle.cases.specs.Replies.{replied, stepReply, countReply, replyTo, replyOf}
 
 -- the answer by its tag
 pub done : (a : Answer) → OneOf (1 ∷ []) (tagOf the-type a) → a ≡ Done
@@ -30,11 +32,11 @@ module _ (q at : ℕ) (s b : List ℕ) where
   unfolding replyTo
   step-asked e = rw (eq-eqb q 1 e)
 
-  pub walk-asked : (q ≡ 1 → ⊥) → q ≡ 2 → walkReply (walkOf s) ≡ replyTo q at s b
+  pub walk-asked : (q ≡ 1 → ⊥) → q ≡ 2 → countReply (walkReply (walkOf s)) ≡ replyTo q at s b
   unfolding replyTo
   walk-asked n e = rw (ne-eqb q 1 n, eq-eqb q 2 e)
 
-  pub check-asked : (q ≡ 1 → ⊥) → (q ≡ 2 → ⊥) → q ≡ 3 → checkReply (checkOf s b) ≡ replyTo q at s b
+  pub check-asked : (q ≡ 1 → ⊥) → (q ≡ 2 → ⊥) → q ≡ 3 → countReply (checkReply (checkOf s b)) ≡ replyTo q at s b
   unfolding replyTo
   check-asked n m e = rw (ne-eqb q 1 n, ne-eqb q 2 m, eq-eqb q 3 e)
 

@@ -5,7 +5,9 @@ use objects::Step;
 use objects::Walked;
 use slips::Verdict;
 ghost use mathlib.Core.Path.{_≡_};
-ghost use Rattle.cases.specs.Replies.{replied, stepReply, walkReply, checkReply, replyTo, replyOf};
+ghost use Rattle.objects.specs.Replies.{walkReply};
+ghost use Rattle.slips.specs.Replies.{checkReply};
+ghost use Rattle.cases.specs.Replies.{replied, stepReply, countReply, replyTo, replyOf};
 
 // A word for the kind of answer, and its numbers: those that it doesn't have are 0.
 pub struct Reply {
@@ -17,7 +19,7 @@ pub struct Reply {
 }
 
 // The numbers put together.
-pub fn told(word: u64, first: u64, second: u64, third: u64, next: u64) -> Reply
+pub(crate) fn numbers(word: u64, first: u64, second: u64, third: u64, next: u64) -> Reply
     ensures { λ r. ⌜ r ≡ replied word first second third next ⌝ }
 {
     Reply {
@@ -36,27 +38,33 @@ fn step_reply(step: Step) -> Reply
     let to = next.at as u64;
     let answer = step.answer;
     match answer {
-        Answer::Object { start, size, kind } => told(1, start as u64, size as u64, kind as u64, to),
-        Answer::Done => told(2, 0, 0, 0, to),
-        Answer::Refused { number, place } => told(3, number as u64, place as u64, 0, to),
+        Answer::Object { start, size, kind } => numbers(
+            1,
+            start as u64,
+            size as u64,
+            kind as u64,
+            to,
+        ),
+        Answer::Done => numbers(2, 0, 0, 0, to),
+        Answer::Refused { number, place } => numbers(3, number as u64, place as u64, 0, to),
     }
 }
 
 fn walk_reply(walked: Walked) -> Reply
-    ensures { λ r. ⌜ r ≡ walkReply walked ⌝ }
+    ensures { λ r. ⌜ r ≡ countReply (walkReply walked) ⌝ }
 {
     match walked {
-        Walked::Count(n) => told(4, n as u64, 0, 0, 0),
-        Walked::Refused { number, place } => told(3, number as u64, place as u64, 0, 0),
+        Walked::Count(n) => numbers(4, n as u64, 0, 0, 0),
+        Walked::Refused { number, place } => numbers(3, number as u64, place as u64, 0, 0),
     }
 }
 
 fn check_reply(verdict: Verdict) -> Reply
-    ensures { λ r. ⌜ r ≡ checkReply verdict ⌝ }
+    ensures { λ r. ⌜ r ≡ countReply (checkReply verdict) ⌝ }
 {
     match verdict {
-        Verdict::Accepted(n) => told(4, n as u64, 0, 0, 0),
-        Verdict::Refused { number, place } => told(3, number as u64, place as u64, 0, 0),
+        Verdict::Accepted(n) => numbers(4, n as u64, 0, 0, 0),
+        Verdict::Refused { number, place } => numbers(3, number as u64, place as u64, 0, 0),
     }
 }
 
@@ -74,7 +82,7 @@ fn reply_to(question: u8, at: usize, log: &[u8], bundle: &[u8]) -> Reply
     if question == 3 {
         return check_reply(slips::check(log, bundle));
     }
-    told(0, 0, 0, 0, 0)
+    numbers(0, 0, 0, 0, 0)
 }
 
 // The reply to a case. Bytes that are no case get a reply of zeros.
@@ -82,12 +90,12 @@ pub fn answer(case: &[u8]) -> Reply
     ensures { λ r. ⌜ r ≡ replyOf (now (case .entry)) ⌝ }
 {
     if case.len() < 17 {
-        return told(0, 0, 0, 0, 0);
+        return numbers(0, 0, 0, 0, 0);
     }
     let log = fields::get32(case, 1) as usize;
     let bundle = fields::get32(case, 5) as usize;
     if case.len() != 17 + log + bundle {
-        return told(0, 0, 0, 0, 0);
+        return numbers(0, 0, 0, 0, 0);
     }
     let at = fields::get64(case, 9) as usize;
     reply_to(

@@ -1,7 +1,7 @@
 // The CAN records as they are read: their numbers in the order of their fields.
-use crate::sheet::close;
 use crate::sheet::put_all;
 use crate::sheet::put_header;
+use crate::sheet::put_read_answer;
 use crate::sheet::put8x8;
 use crate::sheet::wide8;
 use crate::sheet::wide16;
@@ -10,7 +10,6 @@ use can::Message;
 use can::Overload;
 use can::Statistic;
 use objects::Cursor;
-ghost use mathlib.Core.Path.{_≡_};
 ghost use Prim.Native.Nat.{_≤_};
 ghost use lib.ListN.{length};
 ghost use Rattle.compare.specs.Kept.{Kept};
@@ -70,7 +69,7 @@ pub fn message(out: &mut [u8], log: &[u8], c: Cursor) -> usize
     let next = read.next;
     let value = read.value;
     let end = put_message(out, value);
-    close(out, told, next, end, &log[..0])
+    put_read_answer(out, told, next, end, &log[..0])
 }
 
 pub fn overload(out: &mut [u8], log: &[u8], c: Cursor) -> usize
@@ -82,7 +81,7 @@ pub fn overload(out: &mut [u8], log: &[u8], c: Cursor) -> usize
     let next = read.next;
     let value = read.value;
     let end = put_overload(out, value);
-    close(out, told, next, end, &log[..0])
+    put_read_answer(out, told, next, end, &log[..0])
 }
 
 pub fn statistic(out: &mut [u8], log: &[u8], c: Cursor) -> usize
@@ -94,5 +93,5 @@ pub fn statistic(out: &mut [u8], log: &[u8], c: Cursor) -> usize
     let next = read.next;
     let value = read.value;
     let end = put_statistic(out, value);
-    close(out, told, next, end, &log[..0])
+    put_read_answer(out, told, next, end, &log[..0])
 }

@@ -1,7 +1,7 @@
 // The Ethernet records as they are read: their numbers in the order of their fields.
-use crate::sheet::close;
 use crate::sheet::put_all;
 use crate::sheet::put_header;
+use crate::sheet::put_read_answer;
 use crate::sheet::wide8;
 use crate::sheet::wide16;
 use crate::sheet::wide32;
@@ -9,7 +9,6 @@ use ethernet::Frame;
 use ethernet::FrameError;
 use ethernet::Status;
 use objects::Cursor;
-ghost use mathlib.Core.Path.{_≡_};
 ghost use Prim.Native.Nat.{_≤_};
 ghost use lib.ListN.{length};
 ghost use Rattle.compare.specs.Kept.{Kept};
@@ -74,7 +73,7 @@ pub fn status(out: &mut [u8], log: &[u8], c: Cursor) -> usize
     let next = read.next;
     let value = read.value;
     let end = put_status(out, value);
-    close(out, told, next, end, &log[..0])
+    put_read_answer(out, told, next, end, &log[..0])
 }
 
 pub fn frame(out: &mut [u8], log: &[u8], c: Cursor) -> usize
@@ -86,7 +85,7 @@ pub fn frame(out: &mut [u8], log: &[u8], c: Cursor) -> usize
     let next = read.next;
     let value = read.value;
     let end = put_frame(out, value);
-    close(out, told, next, end, objects::frame(log, c))
+    put_read_answer(out, told, next, end, objects::frame(log, c))
 }
 
 pub fn forwarded_frame(out: &mut [u8], log: &[u8], c: Cursor) -> usize
@@ -98,7 +97,7 @@ pub fn forwarded_frame(out: &mut [u8], log: &[u8], c: Cursor) -> usize
     let next = read.next;
     let value = read.value;
     let end = put_frame(out, value);
-    close(out, told, next, end, objects::frame(log, c))
+    put_read_answer(out, told, next, end, objects::frame(log, c))
 }
 
 pub fn frame_error(out: &mut [u8], log: &[u8], c: Cursor) -> usize
@@ -110,7 +109,7 @@ pub fn frame_error(out: &mut [u8], log: &[u8], c: Cursor) -> usize
     let next = read.next;
     let value = read.value;
     let end = put_error(out, value);
-    close(out, told, next, end, objects::frame(log, c))
+    put_read_answer(out, told, next, end, objects::frame(log, c))
 }
 
 pub fn forwarded_error(out: &mut [u8], log: &[u8], c: Cursor) -> usize
@@ -122,5 +121,5 @@ pub fn forwarded_error(out: &mut [u8], log: &[u8], c: Cursor) -> usize
     let next = read.next;
     let value = read.value;
     let end = put_error(out, value);
-    close(out, told, next, end, objects::frame(log, c))
+    put_read_answer(out, told, next, end, objects::frame(log, c))
 }

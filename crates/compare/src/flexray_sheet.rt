@@ -1,14 +1,13 @@
-// The FlexRay record as they are read: their numbers in the order of its fields.
-use crate::sheet::close;
+// The FlexRay record as it is read: its numbers in the order of its fields.
 use crate::sheet::put_all;
 use crate::sheet::put_header;
+use crate::sheet::put_read_answer;
 use crate::sheet::put8x254;
 use crate::sheet::wide8;
 use crate::sheet::wide16;
 use crate::sheet::wide32;
 use flexray::Receive;
 use objects::Cursor;
-ghost use mathlib.Core.Path.{_≡_};
 ghost use Prim.Native.Nat.{_≤_};
 ghost use lib.ListN.{length};
 ghost use Rattle.compare.specs.Kept.{Kept};
@@ -58,5 +57,5 @@ pub fn receive(out: &mut [u8], log: &[u8], c: Cursor) -> usize
     let next = read.next;
     let value = read.value;
     let end = put_receive(out, value);
-    close(out, told, next, end, &log[..0])
+    put_read_answer(out, told, next, end, &log[..0])
 }

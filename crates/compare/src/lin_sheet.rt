@@ -1,7 +1,7 @@
 // The LIN records as they are read: their numbers in the order of their fields.
-use crate::sheet::close;
 use crate::sheet::put_all;
 use crate::sheet::put_header;
+use crate::sheet::put_read_answer;
 use crate::sheet::put8x8;
 use crate::sheet::put64x9;
 use crate::sheet::wide8;
@@ -11,7 +11,6 @@ use lin::Message;
 use lin::Tail;
 use lin::WakeUp;
 use objects::Cursor;
-ghost use mathlib.Core.Path.{_≡_};
 ghost use Prim.Native.Nat.{_≤_};
 ghost use lib.ListN.{length};
 ghost use Rattle.compare.specs.Kept.{Kept};
@@ -139,7 +138,7 @@ pub fn message(out: &mut [u8], log: &[u8], c: Cursor) -> usize
     let next = read.next;
     let value = read.value;
     let end = put_message(out, value);
-    close(out, told, next, end, &log[..0])
+    put_read_answer(out, told, next, end, &log[..0])
 }
 
 pub fn wake_up(out: &mut [u8], log: &[u8], c: Cursor) -> usize
@@ -151,5 +150,5 @@ pub fn wake_up(out: &mut [u8], log: &[u8], c: Cursor) -> usize
     let next = read.next;
     let value = read.value;
     let end = put_wake_up(out, value);
-    close(out, told, next, end, &log[..0])
+    put_read_answer(out, told, next, end, &log[..0])
 }

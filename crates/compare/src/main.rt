@@ -1,4 +1,5 @@
-// Answers the cases of docs/src/examples/compare: the stream comes from standard input, the replies go to standard output.
+// Answers the cases of docs/src/examples/compare: the stream comes from standard input, the replies go to standard
+// output.
 mod can_sheet;
 mod ethernet_sheet;
 mod flexray_sheet;

@@ -5,7 +5,6 @@ use crate::flexray_sheet;
 use crate::lin_sheet;
 use crate::sheet::none;
 use objects::Cursor;
-ghost use mathlib.Core.Path.{_≡_};
 ghost use Prim.Native.Nat.{_≤_};
 ghost use lib.ListN.{length};
 ghost use Rattle.compare.specs.Kept.{Kept};

@@ -2,9 +2,7 @@
 use cases::Reply;
 use headers::Header;
 use objects::Cursor;
-use outcomes::Told;
-ghost use mathlib.Core.Path.{_≡_};
-ghost use mathlib.Core.List.{_++_};
+use outcomes::ReadAnswer;
 ghost use Prim.Native.Nat.{_≤_};
 ghost use lib.ListN.{length};
 ghost use Rattle.compare.specs.Kept.{Kept};
@@ -133,21 +131,27 @@ fn reply(word: u64, first: u64, second: u64, next: u64) -> Reply {
     }
 }
 
-// Puts the reply to what a read was told: 6 and where the record's numbers end, with the bytes of its frame behind it; 7 for an object of
-// another type; 2 at the log's end; 3 and the refusal. Answers where all ends.
-pub fn close(out: &mut [u8], told: Told, next: Cursor, end: usize, frame: &[u8]) -> usize
+// Puts the reply to what a read was told: 6 and where the record's numbers end, with the bytes of its frame behind it;
+// 7 for an object of another type; 2 at the log's end; 3 and the refusal. Answers where all ends.
+pub fn put_read_answer(
+    out: &mut [u8],
+    told: ReadAnswer,
+    next: Cursor,
+    end: usize,
+    frame: &[u8],
+) -> usize
     requires { ⌜ (40 ≤ length (now out)) × (end ≤ length (now out)) ⌝ }
     ensures { λ r. ⌜ Kept r (now (out .entry)) (now (out .exit)) ⌝ }
 {
     let to = next.at as u64;
     match told {
-        Told::Record => {
+        ReadAnswer::Record => {
             put_reply(out, reply(6, end as u64, frame.len() as u64, to));
             return put_run(out, end, frame);
         }
-        Told::Other => put_reply(out, reply(7, 0, 0, to)),
-        Told::Done => put_reply(out, reply(2, 0, 0, to)),
-        Told::Refused { number, place } => {
+        ReadAnswer::Other => put_reply(out, reply(7, 0, 0, to)),
+        ReadAnswer::Done => put_reply(out, reply(2, 0, 0, to)),
+        ReadAnswer::Refused { number, place } => {
             put_reply(out, reply(3, number as u64, place as u64, to));
         }
     }

@@ -2,15 +2,14 @@
 use crate::reading::read;
 use crate::sheet::put_reply;
 use cases::Reply;
-use cases::again;
 use cases::answer;
-use cases::lay;
-use cases::offer;
+use cases::foreign_reply;
+use cases::rewrite_reply;
+use cases::write_reply;
 ghost use Prim.Native.Nat.{_≤_};
 ghost use mathlib.Core.Path.{_≡_};
 ghost use lib.ListN.{length};
-ghost use Rattle.io.specs.Counts.{Counts};
-ghost use Rattle.cases.specs.Again.{Roomy};
+ghost use Rattle.compare.specs.Roomy.{Roomy};
 
 // The most bytes of a log, and of a bundle.
 const LIMIT: usize = 65536;
@@ -29,7 +28,8 @@ fn page() -> [u8; 65576]
     [0; 65576]
 }
 
-// The bytes of the case that a head of 17 bytes opens, at most the buffer's length; 0 where the log or the bundle is above the limit.
+// The bytes of the case that a head of 17 bytes opens, at most the buffer's length; 0 where the log or the bundle is
+// above the limit.
 fn whole(head: &[u8]) -> usize
     requires { ⌜ 17 ≤ length (now head) ⌝ }
     ensures { λ r. ⌜ r ≤ 131089 ⌝ }
@@ -45,7 +45,8 @@ fn whole(head: &[u8]) -> usize
     17 + log + bundle
 }
 
-// Reads the next case to the buffer's start and answers its length; 0 at the input's end and where it is no case of ours.
+// Reads the next case to the buffer's start and answers its length; 0 at the input's end and where it is no case of
+// ours.
 fn next_case(fd: i32, buf: &mut [u8]) -> usize
     requires { ⌜ 131089 ≡ length (now buf) ⌝ }
     ensures { λ r. ⌜ (r ≤ length (now (buf .exit))) × (131089 ≡ length (now (buf .exit))) ⌝ }
@@ -96,14 +97,14 @@ fn write_room(case: &[u8]) -> usize
 // Writes the bytes to `out`: as a log again, as the object that they are, or as a foreign one.
 fn written(question: u8, bytes: &[u8], out: &mut [u8]) -> Reply {
     match question {
-        4 => again(bytes, out),
-        6 => lay(bytes, out),
-        _ => offer(bytes, out),
+        4 => rewrite_reply(bytes, out),
+        6 => write_reply(bytes, out),
+        _ => foreign_reply(bytes, out),
     }
 }
 
-// Puts the reply to a case to the front of `out`, and behind it, where it asks for a write, the bytes of the room; answers where it
-// ends.
+// Puts the reply to a case to the front of `out`, and behind it, where it asks for a write, the bytes of the room;
+// answers where it ends.
 fn respond(case: &[u8], out: &mut [u8]) -> usize
     requires { ⌜ 65576 ≡ length (now out) ⌝ }
     ensures { λ r. ⌜ (r ≤ length (now (out .exit))) × (65576 ≡ length (now (out .exit))) ⌝ }

@@ -8,14 +8,13 @@ use Rattle.fields.specs.Numbers.{Bytes}
 use Rattle.fields.proofs.Reading.{got, fits}
 use Rattle.headers.specs.declared.header.Header.{Header}
 use Rattle.headers.specs.Header.{Fit}
-use Rattle.headers.specs.Types.{typeList, sizesIn}
-use Rattle.headers.specs.Rows.{rowIn}
+use Rattle.headers.specs.Types.{Kind, ethernetError, forwardedError, numberOf}
 use Rattle.headers.specs.Layout.{Sized, Lawful}
 use Rattle.headers.proofs.Heads.{clear, passes}
 use Rattle.ethernet.specs.declared.frame_error.FrameError.{FrameError}
 use Rattle.ethernet.specs.Fields.{structureLength, frameOf, errorOf}
 use Rattle.ethernet.specs.FrameError.{error, errorFault, ValidError, errorLayout}
-use Rattle.ethernet.proofs.EventLaws.{event-length, event-view, event-last, event-back, event-no-fault, event-forth, event-valid, Carries, bounds, within}
+use Rattle.ethernet.proofs.EventLaws.{event-length, event-view, event-last, event-back, event-no-fault, event-forth, event-valid, Carries, carries, bounds, within}
 
 -- what is written is read, and no fault refuses it
 module _ (e : FrameError) (bytes : List ℕ) where
@@ -36,41 +35,38 @@ module _ (e : FrameError) (bytes : List ℕ) where
     unfolding errorFault error
     error-no-fault = passes 7 _ (v .frame .unit) ∙ event-no-fault (e .frame) (e .code) bytes (v .frame)
 
-module _ (k : ℕ) (c : Carries k) where
+module _ (k : Kind) (c : Carries (numberOf k)) where
   -- what no fault refuses is what is written, and valid
-  module _ (h : Header) (b : List ℕ) (f : Fit h) (bs : Bytes b) (s : Sized k b) (z : errorFault h b ≡ 0) where
+  module _ (h : Header) (b : List ℕ) (f : Fit h) (bs : Bytes b) (s : Sized (numberOf k) b) (z : errorFault h b ≡ 0) where
     pub error-forth : error (errorOf h b) (drop structureLength b) ≡ b
     unfolding error errorOf errorFault
     error-forth =
-        let n = bounds k c b s .0 in
+        let n = bounds (numberOf k) c b s .0 in
         event-forth h b bs n (clear _ _ _ z .1) (got b bs structureLength n 4 28 (lit≤ tt))
 
     pub error-valid : ValidError (errorOf h b) (drop structureLength b)
     unfolding errorOf errorFault
     error-valid =
-        let n = bounds k c b s in
+        let n = bounds (numberOf k) c b s in
         record {
           frame = event-valid h b bs (n .0) f (clear _ _ _ z .0) (n .1);
           code = fits b bs structureLength (n .0) 4 28 (lit≤ tt);
         }
 
-  pub error-lawful : Lawful (errorLayout k)
+  pub error-lawful : Lawful k errorLayout
   unfolding errorOf frameOf
   error-lawful = record {
-    known = c .known;
     fit = λ e v. v .frame .header;
     same-header = λ h b. refl;
-    sized = λ e v. within k c (error (e .value) (e .bytes)) (error-length (e .value) (e .bytes)) (v .frame .short);
+    sized = λ e v. within (numberOf k) c (error (e .value) (e .bytes)) (error-length (e .value) (e .bytes)) (v .frame .short);
     back = λ e v i. record { value = error-back (e .value) (e .bytes) v i; bytes = error-view (e .value) (e .bytes) i };
     forth = error-forth;
     no-fault = λ e v. error-no-fault (e .value) (e .bytes) v;
     valid = error-valid;
   }
 
-pub error-laws : Lawful (errorLayout 122)
-unfolding typeList sizesIn rowIn
-error-laws = error-lawful 122 (record { known = refl; sizes = refl })
+pub error-laws : Lawful ethernetError errorLayout
+error-laws = error-lawful ethernetError (carries ethernetError refl)
 
-pub forwarded-error-laws : Lawful (errorLayout 123)
-unfolding typeList sizesIn rowIn
-forwarded-error-laws = error-lawful 123 (record { known = refl; sizes = refl })
+pub forwarded-error-laws : Lawful forwardedError errorLayout
+forwarded-error-laws = error-lawful forwardedError (carries forwardedError refl)

@@ -1,4 +1,5 @@
--- What the laws of frames and errors share: all but the four bytes at 28, here any number, is the same in both. Assumes nothing.
+-- What the laws of frames and errors share: all but the four bytes at 28, here any number, is the same in both. Assumes
+-- nothing.
 use mathlib.Core.Path.{_≡_, refl, sym, ap, _∙_, subst}
 use mathlib.Core.Bool.{true}
 use mathlib.Core.List.{List, _++_}
@@ -15,10 +16,11 @@ use Rattle.fields.proofs.Reading.{Is, more, got, kept, fits}
 use Rattle.headers.specs.declared.header.Header.{Header}
 use Rattle.headers.specs.Format.{headerLength, unitOk}
 use Rattle.headers.specs.Header.{Fit}
-use Rattle.headers.specs.Types.{Sizes, upTo, Has, typeList, sizesIn}
+use Rattle.headers.specs.Types.{Sizes, upTo, Has, Kind, typeOf, numberOf, typeList, sizesIn}
 use Rattle.headers.specs.Rows.{rowOf, listed}
 use Rattle.headers.specs.Layout.{Sized}
 use Rattle.headers.proofs.TypeList.{types-exact}
+use Rattle.headers.proofs.TypeKinds.{known, own-sizes}
 use Rattle.headers.proofs.Heads.{clear, passes}
 use Rattle.ethernet.specs.declared.frame.Frame.{Frame}
 use Rattle.ethernet.specs.Fields.{structureLength, longestFrame, frameOf}
@@ -100,6 +102,9 @@ module _ (h : Header) (b : List ℕ) (bs : Bytes b) (n : structureLength ≤ len
 pub record Carries (k : ℕ) : Type 0 where
   pub known : listed (rowOf k) ≡ true
   pub sizes : sizesIn typeList k ≡ upTo 64 1612
+
+pub carries : (k : Kind) → typeOf k .sizes ≡ upTo 64 1612 → Carries (numberOf k)
+carries k e = record { known = known k; sizes = own-sizes k ∙ e }
 
 module _ (k : ℕ) (c : Carries k) (b : List ℕ) where
   size : (Sized k b) ↔ Has (upTo 64 1612) (headerLength + length b)

@@ -1,4 +1,5 @@
--- The laws of the Ethernet status: what is written is read, and what no fault refuses is what is written. Assumes nothing.
+-- The laws of the Ethernet status: what is written is read, and what no fault refuses is what is written. Assumes
+-- nothing.
 use mathlib.Core.Path.{_≡_, refl, sym}
 use mathlib.Core.List.{List}
 use Prim.Native.Nat.{ℕ}
@@ -11,9 +12,8 @@ use Rattle.fields.proofs.Numbers.{val-le}
 use Rattle.fields.proofs.Reading.{more, got, fits}
 use Rattle.headers.specs.declared.header.Header.{Header}
 use Rattle.headers.specs.Header.{Fit}
-use Rattle.headers.specs.Types.{typeList, sizesIn}
+use Rattle.headers.specs.Types.{ethernetStatus}
 use Rattle.headers.specs.Layout.{Lawful}
-use Rattle.headers.proofs.TypeList.{listed-exact}
 use Rattle.headers.proofs.Bodies.{whole, one-size}
 use Rattle.headers.proofs.Heads.{clear, passes}
 use Rattle.ethernet.specs.declared.status.Status.{Status}
@@ -77,7 +77,7 @@ module _ (h : Header) (b : List ℕ) (f : Fit h) (bs : Bytes b) (long : length b
         bitrate = k 4 12 (lit≤ tt);
       }
 
-pub status-laws : Lawful statusLayout
-unfolding typeList sizesIn statusOf
+pub status-laws : Lawful ethernetStatus statusLayout
+unfolding statusOf
 status-laws =
-    one-size statusLayout 16 refl (listed-exact 103) (λ r v. v .header) (λ h b. refl) status-length status-back status-forth status-no-fault status-valid
+    one-size ethernetStatus statusLayout 16 refl (λ r v. v .header) (λ h b. refl) status-length status-back status-forth status-no-fault status-valid

@@ -1,12 +1,12 @@
--- Types 120 to 123 as bytes: what a frame and an error have in common. Structure length and frame length follow from the frame's bytes,
--- which are lent beside the record.
+-- Types 120 to 123 as bytes: what a frame and an error have in common. Structure length and frame length follow from
+-- the frame's bytes, which are lent beside the record.
 use Prim.Native.Nat.{ℕ, _-_}
 use mathlib.Core.List.{List, _++_}
 use lib.Dec.{eqb}
 use lib.ListN.{length}
 use Rattle.fields.specs.Numbers.{num}
 use Rattle.fields.specs.Digits.{le}
-use Rattle.headers.specs.Tests.{first}
+use Rattle.headers.specs.HeadTests.{first}
 use Rattle.ethernet.specs.declared.frame.Frame.{Frame}
 use Rattle.ethernet.specs.Fields.{structureLength}
 

@@ -1,5 +1,5 @@
--- Types 120 and 121, frame and forwarded frame, as bytes: what Fields reads, the other way round; their tests as the code makes them; which
--- records are valid. The two differ in the type number alone, the `kind` of their layout.
+-- Types 120 and 121, frame and forwarded frame, as bytes: what Fields reads, the other way round; their tests as the
+-- code makes them; which records are valid. The two differ in the type number alone.
 use Prim.Native.Nat.{ℕ, _≤_, _<_, _^_}
 use mathlib.Core.Path.{_≡_}
 use mathlib.Core.Bool.{true}
@@ -8,7 +8,7 @@ use lib.ListN.{length}
 use Rattle.fields.specs.Numbers.{part, zeros, allZero}
 use Rattle.headers.specs.declared.header.Header.{Header}
 use Rattle.headers.specs.Header.{Fit}
-use Rattle.headers.specs.Tests.{first}
+use Rattle.headers.specs.HeadTests.{first}
 use Rattle.headers.specs.Format.{unitOk}
 use Rattle.headers.specs.Layout.{Layout}
 use Rattle.ethernet.specs.declared.frame.Frame.{Frame}
@@ -38,9 +38,8 @@ pub record ValidFrame (r : Frame) (bytes : List ℕ) : Type 0 where
   pub handle : r .handle < 256 ^ 4
   pub short : length bytes ≤ longestFrame
 
-abbrev pub frameLayout : ℕ → Layout (Framed Frame)
-frameLayout k = record {
-  kind = k;
+abbrev pub frameLayout : Layout (Framed Frame)
+frameLayout = record {
   header = λ f. f .value .header;
   body = λ f. frame (f .value) (f .bytes);
   of = frameIn;

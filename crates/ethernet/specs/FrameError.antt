@@ -1,10 +1,10 @@
--- Types 122 and 123, error and forwarded error, as bytes: what Fields reads, the other way round; their tests as the code makes them; which
--- records are valid. The two differ in the type number alone, the `kind` of their layout.
+-- Types 122 and 123, error and forwarded error, as bytes: what Fields reads, the other way round; their tests as the
+-- code makes them; which records are valid. The two differ in the type number alone.
 use Prim.Native.Nat.{ℕ, _<_, _^_}
 use mathlib.Core.List.{List}
 use Rattle.fields.specs.Digits.{le}
 use Rattle.headers.specs.declared.header.Header.{Header}
-use Rattle.headers.specs.Tests.{first}
+use Rattle.headers.specs.HeadTests.{first}
 use Rattle.headers.specs.Format.{unitOk}
 use Rattle.headers.specs.Layout.{Layout}
 use Rattle.ethernet.specs.declared.frame_error.FrameError.{FrameError}
@@ -26,9 +26,8 @@ pub record ValidError (e : FrameError) (bytes : List ℕ) : Type 0 where
   pub frame : ValidFrame (e .frame) bytes
   pub code : e .code < 256 ^ 4
 
-abbrev pub errorLayout : ℕ → Layout (Framed FrameError)
-errorLayout k = record {
-  kind = k;
+abbrev pub errorLayout : Layout (Framed FrameError)
+errorLayout = record {
   header = λ e. e .value .frame .header;
   body = λ e. error (e .value) (e .bytes);
   of = errorIn;

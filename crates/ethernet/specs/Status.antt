@@ -1,4 +1,5 @@
--- Type 103, Ethernet status, as bytes: what Fields reads, the other way round; its tests as the code makes them; which records are valid.
+-- Type 103, Ethernet status, as bytes: what Fields reads, the other way round; its tests as the code makes them; which
+-- records are valid.
 use Prim.Native.Nat.{ℕ, _<_, _^_}
 use mathlib.Core.Path.{_≡_}
 use mathlib.Core.Bool.{true}
@@ -6,7 +7,7 @@ use mathlib.Core.List.{List, _++_}
 use Rattle.fields.specs.Digits.{le}
 use Rattle.headers.specs.declared.header.Header.{Header}
 use Rattle.headers.specs.Header.{Fit}
-use Rattle.headers.specs.Tests.{first}
+use Rattle.headers.specs.HeadTests.{first}
 use Rattle.headers.specs.Format.{unitOk}
 use Rattle.headers.specs.Layout.{Layout}
 use Rattle.ethernet.specs.declared.status.Status.{Status}
@@ -47,7 +48,6 @@ pub record ValidStatus (r : Status) : Type 0 where
 
 abbrev pub statusLayout : Layout Status
 statusLayout = record {
-  kind = 103;
   header = λ r. r .header;
   body = status;
   of = statusOf;

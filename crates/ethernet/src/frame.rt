@@ -5,6 +5,7 @@ ghost use mathlib.Core.Path.{_≡_};
 ghost use Prim.Native.Nat.{_+_, _≤_};
 ghost use lib.ListN.{length, drop};
 ghost use Rattle.fields.specs.Written.{Wrote};
+ghost use Rattle.headers.specs.Format.{headerOf, bodyOf};
 ghost use Rattle.ethernet.specs.Fields.{structureLength, longestFrame, frameOf};
 ghost use Rattle.ethernet.specs.Frame.{frame, frameFault};
 
@@ -38,13 +39,14 @@ pub fn frame_fault(h: headers::Header, b: &[u8]) -> u32
     )
 }
 
-// The record of a frame, with its header; `frame_view` gives the frame's bytes.
-pub fn get_frame(h: headers::Header, b: &[u8]) -> Frame
-    requires { ⌜ structureLength ≤ length (now b) ⌝ }
-    ensures { λ r. ⌜ r ≡ frameOf h (now (b .entry)) ⌝ }
+// The record of the frame that an object holds; `frame_view` gives the frame's bytes.
+pub fn get_frame(o: &[u8]) -> Frame
+    requires { ⌜ 64 ≤ length (now o) ⌝ }
+    ensures { λ r. ⌜ r ≡ frameOf (headerOf (now (o .entry))) (bodyOf (now (o .entry))) ⌝ }
 {
+    let b = headers::body(o);
     Frame {
-        header: h,
+        header: headers::get_header(o),
         flags: fields::get16(b, 2),
         channel: fields::get16(b, 4),
         hardware: fields::get16(b, 6),

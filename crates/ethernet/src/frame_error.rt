@@ -7,6 +7,7 @@ ghost use mathlib.Core.Path.{_≡_};
 ghost use Prim.Native.Nat.{_+_, _≤_};
 ghost use lib.ListN.{length};
 ghost use Rattle.fields.specs.Written.{Wrote};
+ghost use Rattle.headers.specs.Format.{headerOf, bodyOf};
 ghost use Rattle.ethernet.specs.Fields.{structureLength, longestFrame, errorOf};
 ghost use Rattle.ethernet.specs.FrameError.{error, errorFault};
 
@@ -24,13 +25,14 @@ pub fn error_fault(h: headers::Header, b: &[u8]) -> u32
     headers::first(7, headers::unit_ok(h.unit), length_fault(b))
 }
 
-// The record of an error, with its header; `frame_view` gives the frame's bytes.
-pub fn get_error(h: headers::Header, b: &[u8]) -> FrameError
-    requires { ⌜ structureLength ≤ length (now b) ⌝ }
-    ensures { λ r. ⌜ r ≡ errorOf h (now (b .entry)) ⌝ }
+// The record of the error that an object holds; `frame_view` gives the frame's bytes.
+pub fn get_error(o: &[u8]) -> FrameError
+    requires { ⌜ 64 ≤ length (now o) ⌝ }
+    ensures { λ r. ⌜ r ≡ errorOf (headerOf (now (o .entry))) (bodyOf (now (o .entry))) ⌝ }
 {
+    let b = headers::body(o);
     FrameError {
-        frame: get_frame(h, b),
+        frame: get_frame(o),
         code: fields::get32(b, 28),
     }
 }

@@ -3,6 +3,7 @@ ghost use mathlib.Core.Path.{_≡_};
 ghost use Prim.Native.Nat.{_+_, _≤_};
 ghost use lib.ListN.{length};
 ghost use Rattle.fields.specs.Written.{Wrote};
+ghost use Rattle.headers.specs.Format.{headerOf, bodyOf};
 ghost use Rattle.ethernet.specs.Status.{status, statusFault};
 ghost use Rattle.ethernet.specs.Fields.{statusOf};
 
@@ -28,13 +29,14 @@ pub fn status_fault(h: headers::Header, b: &[u8]) -> u32
     headers::first(7, headers::unit_ok(h.unit), 0)
 }
 
-// The status in a body, with its header.
-pub fn get_status(h: headers::Header, b: &[u8]) -> Status
-    requires { ⌜ 16 ≤ length (now b) ⌝ }
-    ensures { λ r. ⌜ r ≡ statusOf h (now (b .entry)) ⌝ }
+// The status that an object is.
+pub fn get_status(o: &[u8]) -> Status
+    requires { ⌜ 48 ≤ length (now o) ⌝ }
+    ensures { λ r. ⌜ r ≡ statusOf (headerOf (now (o .entry))) (bodyOf (now (o .entry))) ⌝ }
 {
+    let b = headers::body(o);
     Status {
-        header: h,
+        header: headers::get_header(o),
         channel: fields::get16(b, 0),
         flags: fields::get16(b, 2),
         link: fields::get8(b, 4),

@@ -1,46 +1,59 @@
--- A read answers with the record r, and the view of the frame with the bytes b, exactly where r with b stands in the log as a valid item. Assumes nothing.
+-- A read answers with the record r, and the view of the frame with the bytes b, exactly where r with b stands in the
+-- log as a valid item. Assumes nothing.
 use mathlib.Core.Path.{_≡_, refl, sym, ap, _∙_}
+use mathlib.Core.Bool.{cond}
 use mathlib.Core.Logic.{_↔_}
-use mathlib.Core.List.{List, append-assoc}
+use mathlib.Core.List.{List, []}
 use Prim.Native.Nat.{ℕ}
-use lib.ListN.{length}
-use lib.Seq.{take-at}
+use lib.ListN.{drop}
 use Rattle.fields.specs.Numbers.{Bytes}
 use Rattle.headers.specs.Format.{bodyOf}
 use Rattle.headers.proofs.Objects.{body-object}
 use Rattle.ethernet.specs.declared.frame.Frame.{Frame}
 use Rattle.ethernet.specs.declared.frame_error.FrameError.{FrameError}
-use Rattle.ethernet.specs.Fields.{Framed}
-use Rattle.objects.specs.Kinds.{Kind, Record, layoutOf, frame, forwardedFrame, error, forwardedError}
-use Rattle.objects.specs.Items.{known, bytesOf}
-use Rattle.objects.specs.Views.{objectAt, frameAt}
-use Rattle.objects.proofs.ItemLaws.{written}
-use Rattle.objects.proofs.Standing.{Stands, step-over}
-use Rattle.outcomes.specs.declared.Told.the-variants as told
+use Rattle.ethernet.specs.Fields.{structureLength, Framed}
+use Rattle.ethernet.proofs.FrameLaws.{frame-view}
+use Rattle.ethernet.proofs.ErrorLaws.{error-view}
+use Rattle.headers.specs.Types.{Kind, canMessage, overload, statistic, receive, linMessage, wakeUp, ethernetStatus, frame, forwardedFrame, ethernetError, forwardedError, numberOf}
+use Rattle.objects.specs.Kinds.{Record, layoutOf}
+use Rattle.objects.specs.Items.{known, bytesOf, Stands}
+use Rattle.objects.specs.Views.{isFrame, frameAt}
+use Rattle.objects.proofs.Standing.{item-object}
+use Rattle.objects.proofs.ViewLaws.{object-here}
+use Rattle.outcomes.specs.declared.ReadAnswer.the-variants as told
 use Rattle.outcomes.specs.Reads.{lookAt, recordAt}
 use Rattle.outcomes.proofs.Reading.{read-stands, read-exact}
-use Rattle.ethernet_records.specs.Framed.{framed}
-use Rattle.ethernet_records.proofs.Holding.{Holds, frame-holds, forwarded-frame-holds, error-holds, forwarded-error-holds}
+use Rattle.ethernet_records.specs.Framed.{framed, frameBytes, Gives}
 
-module _ (k : Kind) {bytes : Record k → List ℕ} (h : Holds k bytes) (s : List ℕ) (at : ℕ) where
-  module _ (r : Record k) (w : Stands s at (known k r)) where
-    object-here : objectAt s at ≡ bytesOf (known k r)
-    unfolding objectAt
-    object-here =
-        let st = step-over s at (known k r) (w .valid) _ (w .here) in
-        rw (st, w .here, append-assoc) (take-at (bytesOf (known k r)) _ (length (bytesOf (known k r))) refl)
+-- the view of a record's body is its frame
+viewed : (k : Kind) (r : Record k) → cond (isFrame (numberOf k)) (drop structureLength (layoutOf k .body r)) [] ≡ frameBytes k r
+unfolding isFrame
+viewed canMessage r = refl
+viewed overload r = refl
+viewed statistic r = refl
+viewed receive r = refl
+viewed linMessage r = refl
+viewed wakeUp r = refl
+viewed ethernetStatus r = refl
+viewed frame r = frame-view (r .value) (r .bytes)
+viewed forwardedFrame r = frame-view (r .value) (r .bytes)
+viewed ethernetError r = error-view (r .value) (r .bytes)
+viewed forwardedError r = error-view (r .value) (r .bytes)
 
-    body-here : bodyOf (bytesOf (known k r)) ≡ layoutOf k .body r
-    unfolding bytesOf
-    body-here = body-object (layoutOf k .kind) (layoutOf k .header r) (layoutOf k .body r)
+module _ (k : Kind) (s : List ℕ) (at : ℕ) where
+  body-here : (r : Record k) → bodyOf (bytesOf (known k r)) ≡ layoutOf k .body r
+  unfolding bytesOf
+  body-here r = body-object (numberOf k) (layoutOf k .header r) (layoutOf k .body r)
 
-    -- the view of a record that stands there is its frame
-    pub view-here : frameAt s at ≡ bytes r
-    unfolding frameAt
-    view-here = rw (object-here, written (known k r) (w .valid) .kind, h .viewed, body-here) (h .view r)
+  -- the view of a record that stands there is its frame
+  pub view-here : (r : Record k) → Stands s at (known k r) → frameAt s at ≡ frameBytes k r
+  unfolding frameAt
+  view-here r w =
+      let i = item-object (known k r) (w .valid) in
+      rw (object-here s at _ (i .0) _ (w .here), i .1, body-here r) (viewed k r)
 
   -- where the read gives a record, the view is that record's frame
-  pub view-read : Bytes s → lookAt s at (layoutOf k .kind) .told ≡ told.Record → frameAt s at ≡ bytes (recordAt k s at)
+  view-read : Bytes s → lookAt s at (numberOf k) .told ≡ told.Record → frameAt s at ≡ frameBytes k (recordAt k s at)
   view-read bs q = view-here (recordAt k s at) (read-stands k s at bs q)
 
 -- a record with its frame, told by its two parts
@@ -52,20 +65,16 @@ by-parts x a b same e = (
 )
 
 module _ (s : List ℕ) (at : ℕ) (bs : Bytes s) where
-  -- a read of type k gives the record r, and the view the bytes b
-  abbrev pub Gives : (k : Kind) {A : Type 0} (pick : Record k → A) (r : A) (b : List ℕ) → Type 0
-  Gives k pick r b = (lookAt s at (layoutOf k .kind) .told ≡ told.Record) × (pick (recordAt k s at) ≡ r) × (frameAt s at ≡ b)
+  pub frame-exact : (r : Frame) (b : List ℕ) → Gives s at frame (λ f. f .value) r b ↔ Stands s at (known frame (framed r b))
+  frame-exact r b = by-parts (recordAt frame s at) r b (view-read frame s at bs) (read-exact frame s at bs (framed r b))
 
-  pub frame-exact : (r : Frame) (b : List ℕ) → Gives frame (λ f. f .value) r b ↔ Stands s at (known frame (framed r b))
-  frame-exact r b = by-parts (recordAt frame s at) r b (view-read frame frame-holds s at bs) (read-exact frame s at bs (framed r b))
-
-  pub forwarded-frame-exact : (r : Frame) (b : List ℕ) → Gives forwardedFrame (λ f. f .value) r b ↔ Stands s at (known forwardedFrame (framed r b))
+  pub forwarded-frame-exact : (r : Frame) (b : List ℕ) → Gives s at forwardedFrame (λ f. f .value) r b ↔ Stands s at (known forwardedFrame (framed r b))
   forwarded-frame-exact r b =
-      by-parts (recordAt forwardedFrame s at) r b (view-read forwardedFrame forwarded-frame-holds s at bs) (read-exact forwardedFrame s at bs (framed r b))
+      by-parts (recordAt forwardedFrame s at) r b (view-read forwardedFrame s at bs) (read-exact forwardedFrame s at bs (framed r b))
 
-  pub error-exact : (e : FrameError) (b : List ℕ) → Gives error (λ f. f .value) e b ↔ Stands s at (known error (framed e b))
-  error-exact e b = by-parts (recordAt error s at) e b (view-read error error-holds s at bs) (read-exact error s at bs (framed e b))
+  pub error-exact : (e : FrameError) (b : List ℕ) → Gives s at ethernetError (λ f. f .value) e b ↔ Stands s at (known ethernetError (framed e b))
+  error-exact e b = by-parts (recordAt ethernetError s at) e b (view-read ethernetError s at bs) (read-exact ethernetError s at bs (framed e b))
 
-  pub forwarded-error-exact : (e : FrameError) (b : List ℕ) → Gives forwardedError (λ f. f .value) e b ↔ Stands s at (known forwardedError (framed e b))
+  pub forwarded-error-exact : (e : FrameError) (b : List ℕ) → Gives s at forwardedError (λ f. f .value) e b ↔ Stands s at (known forwardedError (framed e b))
   forwarded-error-exact e b =
-      by-parts (recordAt forwardedError s at) e b (view-read forwardedError forwarded-error-holds s at bs) (read-exact forwardedError s at bs (framed e b))
+      by-parts (recordAt forwardedError s at) e b (view-read forwardedError s at bs) (read-exact forwardedError s at bs (framed e b))

@@ -1,5 +1,3 @@
-pub mod Holding
-pub mod FramedWriting
 pub mod FramedReading
 pub mod Exact
 pub mod Taking

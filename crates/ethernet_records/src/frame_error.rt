@@ -1,53 +1,48 @@
-// The Ethernet error, type 122, and the forwarded error, type 123, which differs in its number alone: a frame that went wrong.
+// The Ethernet error, type 122, and the forwarded error, type 123, which differs in its number alone: a frame that went
+// wrong.
 use crate::frame::frame_size;
 use ethernet::FrameError;
 use headers::Header;
 use objects::Cursor;
-use outcomes::Told;
+use outcomes::ReadAnswer;
 use outcomes::Written;
 ghost use mathlib.Core.Path.{_≡_};
-ghost use Prim.Native.Nat.{_≤_};
-ghost use lib.ListN.{length};
-ghost use Rattle.objects.specs.Kinds.{error, forwardedError};
+ghost use mathlib.Core.Logic.{_⊎_};
+ghost use Rattle.headers.specs.Types.{ethernetError, forwardedError, numberOf};
 ghost use Rattle.objects.specs.Items.{known};
-ghost use Rattle.outcomes.specs.Reads.{recordOf, recordIn, ReadsAs};
+ghost use Rattle.outcomes.specs.Reads.{recordIn, ReadsAs};
 ghost use Rattle.outcomes.specs.Writes.{Outcome};
 ghost use Rattle.ethernet_records.specs.Framed.{framed};
 
-const KIND: u32 = 122;
+const KIND: u32 = headers::ETHERNET_ERROR;
 
-const FORWARDED: u32 = 123;
+const FORWARDED: u32 = headers::FORWARDED_ERROR;
 
 const SIZE: usize = 64;
 
-// What a read is told, the next cursor, and the record: zeros but where it is told of one. The frame's bytes are `objects::frame` at the same cursor.
+// What a read is told, the next cursor, and the record: zeros but where it is told of one. The frame's bytes are
+// `objects::frame` at the same cursor.
 pub struct ErrorRead {
-    pub told: Told,
+    pub told: ReadAnswer,
     pub next: Cursor,
     pub value: FrameError,
 }
 
-fn error_of(o: &[u8]) -> FrameError
-    requires { ⌜ 64 ≤ length (now o) ⌝ }
-    ensures { λ r. ⌜ r ≡ recordOf error (now (o .entry)) .value ⌝ }
-{
-    ethernet::get_error(headers::get_header(o), headers::body(o))
-}
-
-// The error, or forwarded error, that an object's bytes are: zeros where they are too few. `bytes_in` gives the frame's bytes.
+// The error, or forwarded error, that an object's bytes are: zeros where they are too few. `bytes_in` gives the frame's
+// bytes.
 pub fn error_in(o: &[u8]) -> FrameError
-    ensures { λ r. ⌜ r ≡ recordIn error (now (o .entry)) .value ⌝ }
+    ensures { λ r. ⌜ r ≡ recordIn ethernetError (now (o .entry)) .value ⌝ }
 {
     if o.len() < SIZE {
-        return error_of(&[0u8; SIZE]);
+        return ethernet::get_error(&[0u8; SIZE]);
     }
-    error_of(o)
+    ethernet::get_error(o)
 }
 
 // The error at the cursor, of either type.
 fn read_as(kind: u32, log: &[u8], c: Cursor) -> ErrorRead
-    ensures { λ r. ⌜ (kind ≡ 122 → ReadsAs error (λ f. f .value) (now (log .entry)) (c .at) (r .told) (r .next) (r .value))
-        × (kind ≡ 123 → ReadsAs forwardedError (λ f. f .value) (now (log .entry)) (c .at) (r .told) (r .next) (r .value)) ⌝ }
+    ensures { λ r. ⌜ (kind ≡ numberOf ethernetError → ReadsAs ethernetError (λ f. f .value) (now (log .entry)) (c .at) (r .told) (r .next) (r .value))
+        × (kind ≡ numberOf forwardedError → ReadsAs forwardedError (λ f. f .value) (now (log .entry)) (c .at) (r .told) (r .next) (r .value)) ⌝ }
 {
     let l = outcomes::look(log, c, kind);
     let value = error_in(outcomes::cut(log, l));
@@ -58,7 +53,7 @@ fn read_as(kind: u32, log: &[u8], c: Cursor) -> ErrorRead
 
 // The error at the cursor.
 pub fn read_error(log: &[u8], c: Cursor) -> ErrorRead
-    ensures { λ r. ⌜ ReadsAs error (λ f. f .value) (now (log .entry)) (c .at) (r .told) (r .next) (r .value) ⌝ }
+    ensures { λ r. ⌜ ReadsAs ethernetError (λ f. f .value) (now (log .entry)) (c .at) (r .told) (r .next) (r .value) ⌝ }
 {
     read_as(KIND, log, c)
 }
@@ -72,24 +67,24 @@ pub fn read_forwarded_error(log: &[u8], c: Cursor) -> ErrorRead
 
 // Writes a record of either type.
 fn write_as(kind: u32, e: FrameError, lent: &[u8], out: &mut [u8]) -> Written
-    ensures { λ w. ⌜ (kind ≡ 122 → Outcome (known error (framed e (now (lent .entry)))) w (now (out .entry)) (now (out .exit)))
+    requires { ⌜ (kind ≡ 122) ⊎ (kind ≡ 123) ⌝ }
+    ensures { λ w. ⌜ (kind ≡ 122 → Outcome (known ethernetError (framed e (now (lent .entry)))) w (now (out .entry)) (now (out .exit)))
         × (kind ≡ 123 → Outcome (known forwardedError (framed e (now (lent .entry)))) w (now (out .entry)) (now (out .exit))) ⌝ }
 {
     let f = e.frame;
     let h = f.header;
     let size = frame_size(lent);
-    let number = outcomes::refuse(kind, h.unit, true, size, out.len());
+    let number = outcomes::begin(out, kind, h, true, size);
     if number != 0 {
         return Written::Refused { number, place: 0 };
     }
-    headers::put_header(out, kind, size, h);
     ethernet::put_error(out, Header::LENGTH, e, lent);
-    outcomes::close(out, size)
+    outcomes::pad(out, size)
 }
 
 // Writes an error, whose frame is lent, with its padding to the front of `out`.
 pub fn write_error(e: FrameError, lent: &[u8], out: &mut [u8]) -> Written
-    ensures { λ w. ⌜ Outcome (known error (framed e (now (lent .entry)))) w (now (out .entry)) (now (out .exit)) ⌝ }
+    ensures { λ w. ⌜ Outcome (known ethernetError (framed e (now (lent .entry)))) w (now (out .entry)) (now (out .exit)) ⌝ }
 {
     write_as(KIND, e, lent, out)
 }

@@ -1,4 +1,5 @@
-// Runs document 01's examples that are not marked, over the proved calls, and prints what came out: a line an example.
+// Runs document 01's examples of reading and writing that are not marked, over the proved calls, and prints what came
+// out: a line an example. Those of slips, frames and foreign objects stand in `slip_examples`.
 mod reading;
 mod samples;
 mod tell;

@@ -36,7 +36,7 @@ pub fn foreigner() -> [u8; 20]
     log
 }
 
-// Zeros: room for the longest frame and one object more.
+// Zeros: room for the object of the longest frame, and four bytes more.
 pub fn room() -> [u8; 1680]
     ensures { λ r. ⌜ 1680 ≡ length r ⌝ }
 {

@@ -2,7 +2,7 @@
 use objects::Answer;
 use objects::Cursor;
 use objects::Walked;
-use outcomes::Told;
+use outcomes::ReadAnswer;
 use outcomes::Written;
 
 fn say(words: &[u8]) {
@@ -63,13 +63,13 @@ pub fn step(words: &[u8], log: &[u8], at: usize) {
 }
 
 // What the read of one type is told.
-pub fn read(words: &[u8], told: Told) {
+pub fn read(words: &[u8], told: ReadAnswer) {
     say(words);
     match told {
-        Told::Record => say(b"read\n"),
-        Told::Other => say(b"other\n"),
-        Told::Done => say(b"done\n"),
-        Told::Refused { number: k, place } => refused(k, place),
+        ReadAnswer::Record => say(b"read\n"),
+        ReadAnswer::Other => say(b"other\n"),
+        ReadAnswer::Done => say(b"done\n"),
+        ReadAnswer::Refused { number: k, place } => refused(k, place),
     }
 }
 

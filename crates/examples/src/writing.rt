@@ -1,4 +1,4 @@
-// Examples of writing: 7, 9 and 10. (11 stands here once foreign objects are written, and frames of 1,612 and 1,613 bytes once frames are.)
+// Examples of writing: 7, 9 and 10, and the order in which they are tried. Frames and 11 stand in `slip_examples`.
 use crate::samples;
 use crate::tell;
 

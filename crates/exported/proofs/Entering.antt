@@ -1,4 +1,5 @@
--- What the loop of the list knows: the list from the cursor on, with n objects listed, is the whole list. Assumes nothing.
+-- What the loop of the list knows: the list from the cursor on, with n objects listed, is the whole list. Assumes
+-- nothing.
 use Prim.Native.Nat.{ℕ, zero, suc, _+_, _*_, _/_, _<_, _≤_}
 use mathlib.Core.Path.{_≡_, refl, ap, _∙_}
 use mathlib.Core.List.{List, [], _∷_}
@@ -8,7 +9,8 @@ use lib.ListN.{length, set}
 use lib.Seq.{sets, length-sets}
 use Rattle.objects.specs.declared.Answer.the-variants.{Object, Done, Refused}
 use Rattle.objects.specs.Next.{nextAt}
-use Rattle.exported.specs.Lists.{Listing, listed, listFrom, listOf, listReply}
+use Rattle.objects.specs.Stepping.{Met, metFrom}
+use Rattle.exported.specs.Lists.{Listing, listed, numberFor, numbers, listOf, listReply}
 use Rattle.exported.specs.Replies.{reply, lent, Filled}
 use Rattle.exported.proofs.Lending.{unfilled, filled}
 
@@ -19,36 +21,53 @@ entered xs i a b c =
     let q : i + 2 ≡ suc (suc i) = omega arith in
     λ j. set (set (set xs i a) (p j) b) (q j) c
 
+-- what is met behind n objects, listed in xs
+abbrev pub after : ℕ → List ℕ → Met → Listing
+after n xs m = listed (numberFor (m .ended)) (n + length (m .objects)) (m .at) (sets xs (3 * n) (numbers (m .objects)))
+
 pub record Entering (s : List ℕ) (from : ℕ) (xs ys : List ℕ) (at n : ℕ) : Type 0 where
   pub left : ℕ
   pub all : n + left ≡ length xs / 3
   pub long : length ys ≡ length xs
-  pub same : listFrom left s at n ys ≡ listOf s from xs
+  pub same : after n ys (metFrom left s at) ≡ listOf s from xs
 
 pub entering-none : (s : List ℕ) (from : ℕ) (xs : List ℕ) → Entering s from xs xs from 0
 unfolding listOf
-entering-none s from xs = record { left = length xs / 3; all = zero-add _; long = refl; same = refl }
+entering-none s from xs = record { left = length xs / 3; all = zero-add _; long = refl; same = rw zero-add }
 
 module _ (s : List ℕ) (from : ℕ) (xs ys : List ℕ) (at n : ℕ) where
+  -- nothing is met behind them
+  whole : n ≡ n + 0
+  whole = omega arith
+
   -- the ways by what is left
   module _ (l : length ys ≡ length xs) (h : n < length xs / 3) where
-    on : (left start size kind : ℕ) → n + left ≡ length xs / 3 → listFrom left s at n ys ≡ listOf s from xs → nextAt s at .answer ≡ Object start size kind
+    on : (left start size kind : ℕ) → n + left ≡ length xs / 3 → after n ys (metFrom left s at) ≡ listOf s from xs → nextAt s at .answer ≡ Object start size kind
         → Entering s from xs (sets ys (3 * n) (start ∷ size ∷ kind ∷ [])) (nextAt s at .next .at) (n + 1)
     on zero start size kind e q f = absurd (omega arith)
     on (suc left) start size kind e q f =
-        record { left = left; all = omega (arith, e); long = length-sets ys (3 * n) (start ∷ size ∷ kind ∷ []) ∙ l; same = rw f at q }
+        let zs = sets ys (3 * n) (start ∷ size ∷ kind ∷ []) in
+        let m = metFrom left s (nextAt s at .next .at) in
+        let c : (n + 1) + length (m .objects) ≡ n + suc (length (m .objects)) = omega arith in
+        let p : 3 * (n + 1) ≡ suc (suc (suc (3 * n))) = omega arith in
+        record {
+          left = left;
+          all = omega (arith, e);
+          long = length-sets ys (3 * n) (start ∷ size ∷ kind ∷ []) ∙ l;
+          same = (λ i. listed (numberFor (m .ended)) (c i) (m .at) (sets zs (p i) (numbers (m .objects)))) ∙ rw f at q;
+        }
 
-    done : (left : ℕ) → n + left ≡ length xs / 3 → listFrom left s at n ys ≡ listOf s from xs → nextAt s at .answer ≡ Done → listed 100 n at ys ≡ listOf s from xs
+    done : (left : ℕ) → n + left ≡ length xs / 3 → after n ys (metFrom left s at) ≡ listOf s from xs → nextAt s at .answer ≡ Done → listed 100 n at ys ≡ listOf s from xs
     done zero e q f = absurd (omega arith)
-    done (suc left) e q f = rw f at q
+    done (suc left) e q f = (λ i. listed 100 (whole i) at ys) ∙ rw f at q
 
-    refused : (left number place : ℕ) → n + left ≡ length xs / 3 → listFrom left s at n ys ≡ listOf s from xs → nextAt s at .answer ≡ Refused number place
+    refused : (left number place : ℕ) → n + left ≡ length xs / 3 → after n ys (metFrom left s at) ≡ listOf s from xs → nextAt s at .answer ≡ Refused number place
         → listed number n place ys ≡ listOf s from xs
     refused zero number place e q f = absurd (omega arith)
-    refused (suc left) number place e q f = rw f at q
+    refused (suc left) number place e q f = (λ i. listed number (whole i) place ys) ∙ rw f at q
 
-  full : (left : ℕ) → n + left ≡ length xs / 3 → listFrom left s at n ys ≡ listOf s from xs → length xs / 3 ≤ n → listed 0 n at ys ≡ listOf s from xs
-  full zero e q h = q
+  full : (left : ℕ) → n + left ≡ length xs / 3 → after n ys (metFrom left s at) ≡ listOf s from xs → length xs / 3 ≤ n → listed 0 n at ys ≡ listOf s from xs
+  full zero e q h = (λ i. listed 0 (whole i) at ys) ∙ q
   full (suc left) e q h = absurd (omega arith)
 
   -- the ways out of the loop

@@ -1,4 +1,5 @@
--- The two ways of a lent slice: too short, or with the values at its front; and of a slice that is filled beside it. Assumes nothing.
+-- The two ways of a lent slice: too short, or with the values at its front; and of a slice that is filled beside it.
+-- Assumes nothing.
 use Prim.Native.Nat.{ℕ, _<_, _≤_}
 use mathlib.Core.Path.{_≡_, sym, ap, _∙_}
 use mathlib.Core.List.{List}

@@ -7,24 +7,16 @@ use lib.ListN.{length}
 use borrow.Author.Tests.{le-leb, lt-leb}
 use Rattle.fields.specs.Written.{Wrote}
 use Rattle.fields.proofs.Writing.{front}
-use Rattle.outcomes.specs.declared.Told.{Told}
-use Rattle.outcomes.specs.declared.Told.the-variants as told
 use Rattle.outcomes.specs.declared.Looked.{Looked}
 use Rattle.outcomes.specs.declared.Written.{Written}
 use Rattle.outcomes.specs.declared.Written.the-variants as written
+use Rattle.outcomes.specs.Replies.{writtenReply}
 use Rattle.outcomes.specs.Reads.{lookAt, cutOf}
 use Rattle.outcomes.specs.Writes.{Outcome}
 use Rattle.records.specs.Object.{itemIn}
-use Rattle.exported.specs.Replies.{reply, lent, Filled}
-use Rattle.exported.specs.Records.{toldReply, lookReply, objectFor, readReply, readInto, usedReply, writeReply, writeInto}
+use Rattle.exported.specs.Replies.{reply, lent, Filled, toldOf}
+use Rattle.exported.specs.Records.{lookReply, objectFor, readReply, readInto, writeReply, writeInto}
 use Rattle.exported.proofs.Lending.{room, unfilled, filled}
-
--- whatever a read is told, two values are
-two : (t : Told) (size next : ℕ) → length (toldReply t size next .values) ≡ 2
-two told.Record size next = refl
-two told.Other size next = refl
-two told.Done size next = refl
-two (told.Refused k p) size next = refl
 
 module _ (s : List ℕ) (at kind : ℕ) (x us : List ℕ) {l : Looked} {o : List ℕ} (e : l ≡ lookAt s at kind) (f : o ≡ cutOf s l) where
   object-is : o ≡ objectFor s at kind
@@ -38,14 +30,14 @@ module _ (s : List ℕ) (at kind : ℕ) (x us : List ℕ) {l : Looked} {o : List
   module _ (h : length o ≤ length x) where
     pub no-values : length us < 2 → Filled (readReply s at kind x) (readInto s at kind x) 10 x x us us
     unfolding readReply readInto
-    no-values n = rw (← object-is, le-leb (length o) (length x) h, ← e) (unfilled (rw (two (l .told) (l .size) (l .next .at)) n))
+    no-values n = rw (← object-is, le-leb (length o) (length x) h, ← e) (unfilled n)
 
     pub copied : {r : ℕ} {y vs : List ℕ} → 2 ≤ length us → Wrote 0 o x y → reply r vs ≡ lent (lookReply l) us → Filled (readReply s at kind x) (readInto s at kind x) r x y us vs
     unfolding readReply readInto
-    copied n w told = rw (← object-is, le-leb (length o) (length x) h, ← e) (filled (rw (two (l .told) (l .size) (l .next .at)) n) (front (length o) w refl h) told)
+    copied n w told = rw (← object-is, le-leb (length o) (length x) h, ← e) (filled n (front (length o) w refl h) told)
 
 -- whatever a write answers, one value is told
-one : (w : Written) → length (usedReply w .values) ≡ 1
+one : (w : Written) → length (toldOf (writtenReply w) .values) ≡ 1
 one (written.Used n) = refl
 one (written.Refused k p) = refl
 
@@ -54,7 +46,7 @@ module _ (o x us : List ℕ) where
   unfolding writeReply
   unwritten h = unfilled (rw one h)
 
-  pub wrote : {r : ℕ} {w a : Written} {y vs : List ℕ} → 1 ≤ length us → Outcome (itemIn o) w x y → w ≡ a → reply r vs ≡ lent (usedReply a) us
+  pub wrote : {r : ℕ} {w a : Written} {y vs : List ℕ} → 1 ≤ length us → Outcome (itemIn o) w x y → w ≡ a → reply r vs ≡ lent (toldOf (writtenReply a)) us
       → Filled (writeReply o x) (writeInto o x) r x y us vs
   unfolding writeReply writeInto
-  wrote h q e told = filled (rw one h) (q .buffer) (told ∙ ap (λ (b : Written). lent (usedReply b) us) (sym e ∙ q .answer))
+  wrote h q e told = filled (rw one h) (q .buffer) (told ∙ ap (λ (b : Written). lent (toldOf (writtenReply b)) us) (sym e ∙ q .answer))

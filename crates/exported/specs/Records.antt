@@ -2,29 +2,23 @@
 use Prim.Native.Nat.{ℕ}
 use mathlib.Core.Bool.{cond}
 use mathlib.Core.List.{List, [], _∷_, _++_}
-use lib.ListN.{length, drop}
+use lib.ListN.{length, drop, getD}
 use lib.Dec.{leb}
-use Rattle.outcomes.specs.declared.Told.{Told}
-use Rattle.outcomes.specs.declared.Told.the-variants as told
 use Rattle.outcomes.specs.declared.Looked.{Looked}
-use Rattle.outcomes.specs.declared.Written.{Written}
-use Rattle.outcomes.specs.declared.Written.the-variants as written
+use Rattle.outcomes.specs.Replies as outcomes
 use Rattle.outcomes.specs.Reads.{lookAt, cutOf}
 use Rattle.outcomes.specs.Writes.{refusalOf, answerOf, bufferOf}
 use Rattle.objects.specs.Items.{padded}
+use Rattle.objects.specs.Replies as paper
 use Rattle.records.specs.Object.{itemIn}
-use Rattle.exported.specs.Replies.{Reply, reply}
+use Rattle.exported.specs.Replies.{Reply, reply, codeOf, toldOf}
 
--- 0 with the object's size and the next position; 101 for another type and 100 for done, both with 0 and the next position; or the refusal's
--- number with its place and the position
-abbrev pub toldReply : Told → ℕ → ℕ → Reply
-toldReply told.Record size next = reply 0 (size ∷ next ∷ [])
-toldReply told.Other size next = reply 101 (0 ∷ next ∷ [])
-toldReply told.Done size next = reply 100 (0 ∷ next ∷ [])
-toldReply (told.Refused k p) size next = reply k (p ∷ next ∷ [])
+-- the object's size, which is 0 where no record is told, or a refusal's place; then the next position
+abbrev pub recordReply : paper.Reply → ℕ → ℕ → Reply
+recordReply r size next = reply (codeOf r) (getD (paper.valuesOf r) 0 size ∷ next ∷ [])
 
 abbrev pub lookReply : Looked → Reply
-lookReply l = toldReply (l .told) (l .size) (l .next .at)
+lookReply l = recordReply (outcomes.readReply (l .told)) (l .size) (l .next .at)
 
 -- the object of a type at a place, without padding; none where there is no such object
 unfoldable pub objectFor : List ℕ → ℕ → ℕ → List ℕ
@@ -37,14 +31,9 @@ readReply s at kind x = cond (leb (length (objectFor s at kind)) (length x)) (lo
 unfoldable pub readInto : List ℕ → ℕ → ℕ → List ℕ → List ℕ
 readInto s at kind x = cond (leb (length (objectFor s at kind)) (length x)) (objectFor s at kind ++ drop (length (objectFor s at kind)) x) x
 
--- 0 and the bytes used, or the refusal's number and its place
-abbrev pub usedReply : Written → Reply
-usedReply (written.Used n) = reply 0 (n ∷ [])
-usedReply (written.Refused k p) = reply k (p ∷ [])
-
 -- an object's bytes written as what they are into the buffer x, as the `Outcome` of that item has it
 unfoldable pub writeReply : List ℕ → List ℕ → Reply
-writeReply o x = usedReply (answerOf (refusalOf (itemIn o) (length x)) (padded (itemIn o)))
+writeReply o x = toldOf (outcomes.writtenReply (answerOf (refusalOf (itemIn o) (length x)) (padded (itemIn o))))
 
 unfoldable pub writeInto : List ℕ → List ℕ → List ℕ
 writeInto o x = bufferOf (refusalOf (itemIn o) (length x)) (padded (itemIn o)) x

@@ -3,16 +3,11 @@ use Prim.Native.Nat.{ℕ}
 use mathlib.Core.Path.{_≡_}
 use mathlib.Core.Bool.{cond}
 use mathlib.Core.List.{List, [], _∷_}
-use lib.ListN.{length}
+use lib.ListN.{length, getD}
 use lib.Dec.{leb}
 use lib.Seq.{sets}
-use Rattle.objects.specs.declared.Answer.{Answer}
-use Rattle.objects.specs.declared.Answer.the-variants as answer
 use Rattle.objects.specs.declared.Step.{Step}
-use Rattle.objects.specs.declared.Walked.{Walked}
-use Rattle.objects.specs.declared.Walked.the-variants as walked
-use Rattle.slips.specs.declared.pass.Verdict.{Verdict}
-use Rattle.slips.specs.declared.pass.Verdict.the-variants as verdict
+use Rattle.objects.specs.Replies as paper
 
 pub record Reply : Type 0 where
   pub number : ℕ
@@ -25,25 +20,27 @@ reply n vs = record { number = n; values = vs }
 unfoldable pub lent : Reply → List ℕ → Reply
 lent t xs = cond (leb (length (t .values)) (length xs)) (reply (t .number) (sets xs 0 (t .values))) (reply 10 xs)
 
--- What a call leaves that also fills a slice x: the number and the values, and x as z where the values have room, else as it was.
+-- What a call leaves that also fills a slice x: the number and the values, and x as z where the values have room, else
+-- as it was.
 pub record Filled (t : Reply) (z : List ℕ) (r : ℕ) (x y us vs : List ℕ) : Type 0 where
   pub told : reply r vs ≡ lent t us
   pub filled : y ≡ cond (leb (length (t .values)) (length us)) z x
 
--- 0 and the count, or the refusal's number and its place
-abbrev pub walkReply : Walked → Reply
-walkReply (walked.Count n) = reply 0 (n ∷ [])
-walkReply (walked.Refused k p) = reply k (p ∷ [])
+-- the number that a call returns: 0 for success, a refusal's own, and two that are ours for the paper's words
+abbrev pub codeOf : paper.Reply → ℕ
+codeOf (paper.success values) = 0
+codeOf paper.other = 101
+codeOf paper.done = 100
+codeOf (paper.refused number place) = number
 
-abbrev pub checkReply : Verdict → Reply
-checkReply (verdict.Accepted n) = reply 0 (n ∷ [])
-checkReply (verdict.Refused k p) = reply k (p ∷ [])
+-- an answer with the paper's values
+abbrev pub toldOf : paper.Reply → Reply
+toldOf r = reply (codeOf r) (paper.valuesOf r)
 
--- start, size, type and the next position; 100 is done
-abbrev pub answerReply : Answer → ℕ → Reply
-answerReply (answer.Object start size kind) next = reply 0 (start ∷ size ∷ kind ∷ next ∷ [])
-answerReply answer.Done next = reply 100 (next ∷ 0 ∷ 0 ∷ next ∷ [])
-answerReply (answer.Refused k p) next = reply k (p ∷ 0 ∷ 0 ∷ next ∷ [])
+-- start, size and type, then the next position; of what the answer does not have, the start is the position and the
+-- others are 0
+abbrev pub nextReply : paper.Reply → ℕ → Reply
+nextReply r next = reply (codeOf r) (getD (paper.valuesOf r) 0 next ∷ getD (paper.valuesOf r) 1 0 ∷ getD (paper.valuesOf r) 2 0 ∷ next ∷ [])
 
 abbrev pub stepReply : Step → Reply
-stepReply s = answerReply (s .answer) (s .next .at)
+stepReply s = nextReply (paper.answerReply (s .answer)) (s .next .at)

@@ -11,11 +11,13 @@ pub use record::mshelovat_read;
 pub use record::mshelovat_write;
 use slips::Verdict;
 ghost use mathlib.Core.Path.{_≡_};
-ghost use mathlib.Core.List.{List, [], _∷_};
+ghost use mathlib.Core.List.{[], _∷_};
 ghost use Rattle.objects.specs.Next.{nextAt};
 ghost use Rattle.objects.specs.Walk.{walkOf};
+ghost use Rattle.objects.specs.Replies.{walkReply};
 ghost use Rattle.slips.specs.Check.{checkOf};
-ghost use Rattle.exported.specs.Replies.{reply, lent, walkReply, stepReply, checkReply};
+ghost use Rattle.slips.specs.Replies.{checkReply};
+ghost use Rattle.exported.specs.Replies.{reply, lent, toldOf, stepReply};
 
 // The lent slice has no room for the answer's values.
 const ROOM: u32 = 10;
@@ -63,7 +65,7 @@ fn tell_four(out: &mut [u64], number: u32, a: usize, b: usize, c: u32, d: usize)
 // The whole log: 0 and the count of its objects, or the first refusal and its place.
 #[no_mangle]
 pub extern "C" fn mshelovat_walk(log: &[u8], out: &mut [u64]) -> u32
-    ensures { λ r. ⌜ reply r (now (out .exit)) ≡ lent (walkReply (walkOf (now (log .entry)))) (now (out .entry)) ⌝ }
+    ensures { λ r. ⌜ reply r (now (out .exit)) ≡ lent (toldOf (walkReply (walkOf (now (log .entry))))) (now (out .entry)) ⌝ }
 {
     match objects::walk(log) {
         Walked::Count(n) => tell(out, 0, n),
@@ -74,7 +76,7 @@ pub extern "C" fn mshelovat_walk(log: &[u8], out: &mut [u64]) -> u32
 // The slips of the bundle beside the log: 0 and the count of objects, or the first refusal and its place.
 #[no_mangle]
 pub extern "C" fn mshelovat_check(log: &[u8], bundle: &[u8], out: &mut [u64]) -> u32
-    ensures { λ r. ⌜ reply r (now (out .exit)) ≡ lent (checkReply (checkOf (now (log .entry)) (now (bundle .entry)))) (now (out .entry)) ⌝ }
+    ensures { λ r. ⌜ reply r (now (out .exit)) ≡ lent (toldOf (checkReply (checkOf (now (log .entry)) (now (bundle .entry))))) (now (out .entry)) ⌝ }
 {
     match slips::check(log, bundle) {
         Verdict::Accepted(n) => tell(out, 0, n),
@@ -82,8 +84,8 @@ pub extern "C" fn mshelovat_check(log: &[u8], bundle: &[u8], out: &mut [u64]) ->
     }
 }
 
-// The object at a position: 0 with its start, size, type and the next position; 100 at the log's end; or the refusal and
-// its place. Behind these two the next position is the one handed in.
+// The object at a position: 0 with its start, size, type and the next position; 100 at the log's end; or the refusal
+// and its place. Behind these two the next position is the one handed in.
 #[no_mangle]
 pub extern "C" fn mshelovat_step(log: &[u8], at: usize, out: &mut [u64]) -> u32
     ensures { λ r. ⌜ reply r (now (out .exit)) ≡ lent (stepReply (nextAt (now (log .entry)) at)) (now (out .entry)) ⌝ }

@@ -5,7 +5,7 @@ use crate::tell;
 use crate::tell_two;
 use objects::Cursor;
 use outcomes::Looked;
-use outcomes::Told;
+use outcomes::ReadAnswer;
 use outcomes::Written;
 ghost use mathlib.Core.Path.{_≡_};
 ghost use Rattle.exported.specs.Replies.{reply, lent, Filled};
@@ -14,7 +14,8 @@ ghost use Rattle.exported.specs.Records.{lookReply, readReply, readInto,
 // An object of another type was let through.
 const OTHER: u32 = 101;
 
-// Answers what a look found: its size and the next position, or why there is none.
+// Answers what a look found: the object's size, which is 0 where there is none of the type, or the refusal's place; and
+// the next position.
 fn tell_look(out: &mut [u64], l: Looked) -> u32
     ensures { λ r. ⌜ reply r (now (out .exit)) ≡ lent (lookReply l) (now (out .entry)) ⌝ }
 {
@@ -22,10 +23,10 @@ fn tell_look(out: &mut [u64], l: Looked) -> u32
     let on = next.at;
     let told = l.told;
     match told {
-        Told::Record => tell_two(out, 0, l.size, on),
-        Told::Other => tell_two(out, OTHER, 0, on),
-        Told::Done => tell_two(out, DONE, 0, on),
-        Told::Refused { number, place } => tell_two(out, number, place, on),
+        ReadAnswer::Record => tell_two(out, 0, l.size, on),
+        ReadAnswer::Other => tell_two(out, OTHER, l.size, on),
+        ReadAnswer::Done => tell_two(out, DONE, l.size, on),
+        ReadAnswer::Refused { number, place } => tell_two(out, number, place, on),
     }
 }
 
@@ -55,8 +56,8 @@ pub extern "C" fn mshelovat_read(
     tell_look(out, l)
 }
 
-// Writes an object's bytes as what they are, by `records::write_object`, with its padding to the front of `bytes`: 0 and
-// the bytes used, or the refusal and its place, 0.
+// Writes an object's bytes as what they are, by `records::write_object`, with its padding to the front of `bytes`: 0
+// and the bytes used, or the refusal and its place, 0.
 #[no_mangle]
 pub extern "C" fn mshelovat_write(object: &[u8], bytes: &mut [u8], out: &mut [u64]) -> u32
     ensures { λ r. ⌜ Filled (writeReply (now (object .entry)) (now (bytes .entry))) (writeInto (now (object .entry)) (now (bytes .entry)))

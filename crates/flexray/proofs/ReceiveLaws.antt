@@ -14,10 +14,9 @@ use Rattle.fields.proofs.Elements.{length-array, length-nums, array-nums, nums-
 use Rattle.headers.specs.declared.header.Header.{Header}
 use Rattle.headers.specs.Format.{unitOk}
 use Rattle.headers.specs.Header.{Fit}
-use Rattle.headers.specs.Types.{typeList, sizesIn}
-use Rattle.headers.specs.Tests.{first}
+use Rattle.headers.specs.Types as kind
+use Rattle.headers.specs.HeadTests.{first}
 use Rattle.headers.specs.Layout.{Lawful}
-use Rattle.headers.proofs.TypeList.{listed-exact}
 use Rattle.headers.proofs.Bodies.{whole, one-size}
 use Rattle.headers.proofs.Heads.{clear, passes}
 use Rattle.flexray.specs.declared.receive.Receive.{Receive}
@@ -149,7 +148,7 @@ module _ (h : Header) (b : List ℕ) (f : Fit h) (bs : Bytes b) (long : length b
     counts = passed h b z .counts;
   }
 
-pub receive-laws : Lawful receiveLayout
-unfolding typeList sizesIn receiveOf
+pub receive-laws : Lawful kind.receive receiveLayout
+unfolding receiveOf
 receive-laws =
-    one-size receiveLayout 298 refl (listed-exact 50) (λ r v. v .header) (λ h b. refl) receive-length receive-back receive-forth receive-no-fault receive-valid
+    one-size kind.receive receiveLayout 298 refl (λ r v. v .header) (λ h b. refl) receive-length receive-back receive-forth receive-no-fault receive-valid

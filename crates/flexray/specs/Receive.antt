@@ -1,4 +1,5 @@
--- Type 50, FlexRay receive, as bytes: what Fields reads, the other way round; its tests as the code makes them; which records are valid.
+-- Type 50, FlexRay receive, as bytes: what Fields reads, the other way round; its tests as the code makes them; which
+-- records are valid.
 use Prim.Native.Nat.{ℕ, _<_, _^_}
 use mathlib.Core.Path.{_≡_}
 use mathlib.Core.Bool.{true}
@@ -8,7 +9,7 @@ use Rattle.fields.specs.Numbers.{part, num, zeros, allZero}
 use Rattle.fields.specs.Digits.{le, array}
 use Rattle.headers.specs.declared.header.Header.{Header}
 use Rattle.headers.specs.Header.{Fit}
-use Rattle.headers.specs.Tests.{first}
+use Rattle.headers.specs.HeadTests.{first}
 use Rattle.headers.specs.Format.{unitOk}
 use Rattle.headers.specs.Layout.{Layout}
 use Rattle.flexray.specs.declared.receive.Receive.{Receive}
@@ -83,7 +84,6 @@ pub record ValidReceive (r : Receive) : Type 0 where
 
 abbrev pub receiveLayout : Layout Receive
 receiveLayout = record {
-  kind = 50;
   header = λ r. r .header;
   body = receive;
   of = receiveOf;

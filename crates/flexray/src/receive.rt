@@ -3,6 +3,7 @@ ghost use mathlib.Core.Path.{_≡_};
 ghost use Prim.Native.Nat.{_+_, _≤_};
 ghost use lib.ListN.{length};
 ghost use Rattle.fields.specs.Written.{Wrote};
+ghost use Rattle.headers.specs.Format.{headerOf, bodyOf};
 ghost use Rattle.flexray.specs.Receive.{origin, slot, controller, receive, receiveFault};
 ghost use Rattle.flexray.specs.Fields.{receiveOf, countsOk};
 
@@ -56,14 +57,15 @@ pub fn receive_fault(h: headers::Header, b: &[u8]) -> u32
     )
 }
 
-// The record of a header and a body.
-pub fn get_receive(h: headers::Header, b: &[u8]) -> Receive
-    requires { ⌜ 298 ≤ length (now b) ⌝ }
-    ensures { λ r. ⌜ r ≡ receiveOf h (now (b .entry)) ⌝ }
+// The record that an object is.
+pub fn get_receive(o: &[u8]) -> Receive
+    requires { ⌜ 330 ≤ length (now o) ⌝ }
+    ensures { λ r. ⌜ r ≡ receiveOf (headerOf (now (o .entry))) (bodyOf (now (o .entry))) ⌝ }
 {
+    let b = headers::body(o);
     let bytes = fields::get8x254(b, 44);
     Receive {
-        header: h,
+        header: headers::get_header(o),
         channel: fields::get16(b, 0),
         version: fields::get16(b, 2),
         mask: fields::get16(b, 4),

@@ -1,15 +1,14 @@
--- A read of each type answers with a record exactly where that record stands in the log as a valid item: one theorem, at each
--- type. Assumes nothing.
+-- A read of each type answers with a record exactly where that record stands in the log as a valid item: one theorem,
+-- at each type. Assumes nothing.
 use mathlib.Core.Path.{_≡_}
 use mathlib.Core.Logic.{_↔_}
 use mathlib.Core.List.{List}
 use Prim.Native.Nat.{ℕ}
 use Rattle.fields.specs.Numbers.{Bytes}
 use Rattle.flexray.specs.declared.receive.Receive.{Receive}
-use Rattle.objects.specs.Kinds.{receive}
-use Rattle.objects.specs.Items.{known}
-use Rattle.objects.proofs.Standing.{Stands}
-use Rattle.outcomes.specs.declared.Told.the-variants as told
+use Rattle.headers.specs.Types.{receive}
+use Rattle.objects.specs.Items.{known, Stands}
+use Rattle.outcomes.specs.declared.ReadAnswer.the-variants as told
 use Rattle.outcomes.specs.Reads.{lookAt, recordAt}
 use Rattle.outcomes.proofs.Reading.{read-exact}
 

@@ -2,5 +2,5 @@ pub mod Format
 pub mod Types
 pub mod Rows
 pub mod Header
-pub mod Tests
+pub mod HeadTests
 pub mod Layout

@@ -14,10 +14,10 @@ use Rattle.fields.proofs.Reading.{Is, more, got, fits, blank}
 use Rattle.fields.proofs.Elements.{length-nums, array-nums, nums-fit, nums-array}
 use Rattle.headers.specs.declared.header.Header.{Header}
 use Rattle.headers.specs.Header.{Fit}
-use Rattle.headers.specs.Tests.{first}
+use Rattle.headers.specs.HeadTests.{first}
 use Rattle.headers.specs.Format.{unitOk}
+use Rattle.headers.specs.Types.{linMessage, numberOf}
 use Rattle.headers.specs.Layout.{Sized, Lawful}
-use Rattle.headers.proofs.TypeList.{listed-exact}
 use Rattle.headers.proofs.Heads.{clear, passes}
 use Rattle.lin.specs.declared.message.Message.{Message}
 use Rattle.lin.specs.Bus.{bus}
@@ -79,7 +79,7 @@ passed h b z =
     record { unit = c1 .0; early = c2 .0; late = c3 .0; exact = c4 .0 }
 
 -- what no fault refuses is what is written, and valid
-module _ (h : Header) (b : List ℕ) (f : Fit h) (bs : Bytes b) (s : Sized 57 b) (z : messageFault h b ≡ 0) where
+module _ (h : Header) (b : List ℕ) (f : Fit h) (bs : Bytes b) (s : Sized (numberOf linMessage) b) (z : messageFault h b ≡ 0) where
   within : (w at : ℕ) → at + w ≤ 132 → at + w ≤ length b
   within w at l = omega (arith, long b s)
 
@@ -149,10 +149,9 @@ module _ (h : Header) (b : List ℕ) (f : Fit h) (bs : Bytes b) (s : Sized 57 b)
     exact = passed h b z .exact;
   }
 
-pub message-laws : Lawful messageLayout
+pub message-laws : Lawful linMessage messageLayout
 unfolding messageOf
 message-laws = record {
-  known = listed-exact 57;
   fit = λ r v. v .header;
   same-header = λ h b. refl;
   sized = λ r v. message-sized r;

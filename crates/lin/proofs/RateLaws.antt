@@ -49,12 +49,6 @@ rate-bits n = pick (ltb n infinity) (leb (top binary64) n) refl refl ∙ sym (ra
         let l : n < top binary64 = leb-false (top binary64) n q in
         rw (eq-eqb (exponent n) (ones binary64) (omega arith))
 
--- zero, the least number and the greatest pass; minus zero, the infinities and a NaN do not
-pub rate-examples : (rateOk (ofBits binary64 0) ≡ true) × (rateOk (ofBits binary64 1) ≡ true) × (rateOk (ofBits binary64 0x7fef_ffff_ffff_ffff) ≡ true)
-    × (rateOk (ofBits binary64 0x8000_0000_0000_0000) ≡ false) × (rateOk (ofBits binary64 0x7ff0_0000_0000_0000) ≡ false)
-    × (rateOk (ofBits binary64 0xfff0_0000_0000_0000) ≡ false) × (rateOk (ofBits binary64 0x7ff8_0000_0000_0000) ≡ false)
-rate-examples = (sym (rate-bits _), sym (rate-bits _), sym (rate-bits _), sym (rate-bits _), sym (rate-bits _), sym (rate-bits _), sym (rate-bits _))
-
 -- the same of a rate in memory
 pub rate-same : (x : Float) → fits binary64 x ≡ true → ltb (toBits binary64 x) infinity ≡ rateOk x
 rate-same x f = rate-bits (toBits binary64 x) ∙ ap rateOk (ofBits-toBits binary64 x (rw f tt))

@@ -9,7 +9,7 @@ use lib.Ieee.{Float}
 use Rattle.fields.specs.Digits.{le, array}
 use Rattle.headers.specs.declared.header.Header.{Header}
 use Rattle.headers.specs.Format.{headerLength}
-use Rattle.headers.specs.Types.{oneOf, Has, typeList, sizesIn}
+use Rattle.headers.specs.Types.{oneOf, Has, linMessage, numberOf, typeList, sizesIn}
 use Rattle.headers.specs.Layout.{Sized}
 use Rattle.headers.proofs.TypeList.{types-exact}
 use Rattle.lin.specs.declared.message.Message.{Message}
@@ -24,15 +24,15 @@ pub message-length : (r : Message) → length (message r) ≡ 132 + length (tail
 unfolding message synch bus descriptor array status machines le
 message-length r = omega arith
 
-pub message-sized : (r : Message) → Sized 57 (message r)
+pub message-sized : (r : Message) → Sized (numberOf linMessage) (message r)
 unfolding typeList sizesIn
-message-sized r = types-exact 57 _ .1 (rw message-length (tail-ends (r .tail)))
+message-sized r = types-exact (numberOf linMessage) _ .1 (rw message-length (tail-ends (r .tail)))
 
 -- a body of one of the three sizes
-module _ (b : List ℕ) (s : Sized 57 b) where
+module _ (b : List ℕ) (s : Sized (numberOf linMessage) b) where
   size : Has (oneOf 164 168 184) (headerLength + length b)
   unfolding typeList sizesIn
-  size = types-exact 57 _ .0 s
+  size = types-exact (numberOf linMessage) _ .0 s
 
   pub long : 132 ≤ length b
   long =
@@ -45,12 +45,8 @@ module _ (b : List ℕ) (s : Sized 57 b) where
   pub ends : Ends (drop 132 b)
   ends = rw same-size at size
 
--- the size decides how a message ends: one that is written, and one that is read
-
-pub size-by-tail : (r : Message) → Decides (headerLength + length (message r)) (r .tail)
-size-by-tail r = decides _ (r .tail) (ap (λ (n : ℕ). headerLength + n) (message-length r))
-
-module _ (h : Header) (b : List ℕ) (s : Sized 57 b) where
+-- the size decides how a message ends
+module _ (h : Header) (b : List ℕ) (s : Sized (numberOf linMessage) b) where
   pub tail-by-size : Decides (headerLength + length b) (messageOf h b .tail)
   unfolding messageOf
   tail-by-size = decides _ _ (same-size b s ∙ ap (λ (n : ℕ). headerLength + (132 + n)) (sym (same-length (drop 132 b) (ends b s))))

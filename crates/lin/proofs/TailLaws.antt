@@ -1,4 +1,5 @@
--- The laws of the tail: what is written is read, what was read is written, and the size decides which it is. Assumes nothing.
+-- The laws of the tail: what is written is read, what was read is written, and the size decides which it is. Assumes
+-- nothing.
 use mathlib.Core.Path.{_≡_, refl, sym, ap, _∙_}
 use mathlib.Core.Bool.{true}
 use mathlib.Core.List.{List, [], _∷_}

@@ -11,10 +11,9 @@ use Rattle.fields.proofs.Numbers.{val-le}
 use Rattle.fields.proofs.Reading.{more, got, fits, blank}
 use Rattle.headers.specs.declared.header.Header.{Header}
 use Rattle.headers.specs.Header.{Fit}
-use Rattle.headers.specs.Types.{typeList, sizesIn}
-use Rattle.headers.specs.Tests.{first}
+use Rattle.headers.specs.Types as kind
+use Rattle.headers.specs.HeadTests.{first}
 use Rattle.headers.specs.Layout.{Lawful}
-use Rattle.headers.proofs.TypeList.{listed-exact}
 use Rattle.headers.proofs.Bodies.{whole, one-size}
 use Rattle.headers.proofs.Heads.{clear, passes}
 use Rattle.lin.specs.declared.wake_up.WakeUp.{WakeUp}
@@ -71,7 +70,7 @@ module _ (h : Header) (b : List ℕ) (f : Fit h) (bs : Bytes b) (long : length b
         external = g 1 18 (lit≤ tt);
       }
 
-pub wake-up-laws : Lawful wakeUpLayout
-unfolding typeList sizesIn wakeUpOf
+pub wake-up-laws : Lawful kind.wakeUp wakeUpLayout
+unfolding wakeUpOf
 wake-up-laws =
-    one-size wakeUpLayout 20 refl (listed-exact 62) (λ r v. v .header) (λ h b. refl) wake-up-length wake-up-back wake-up-forth wake-up-no-fault wake-up-valid
+    one-size kind.wakeUp wakeUpLayout 20 refl (λ r v. v .header) (λ h b. refl) wake-up-length wake-up-back wake-up-forth wake-up-no-fault wake-up-valid

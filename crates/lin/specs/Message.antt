@@ -1,4 +1,5 @@
--- Type 57, LIN message 2, as bytes: what Fields reads, the other way round; its tests as the code makes them; which messages are valid.
+-- Type 57, LIN message 2, as bytes: what Fields reads, the other way round; its tests as the code makes them; which
+-- messages are valid.
 use Prim.Native.Nat.{ℕ, _<_, _^_}
 use mathlib.Core.Path.{_≡_}
 use mathlib.Core.Bool.{true}
@@ -8,7 +9,7 @@ use Rattle.fields.specs.Numbers.{part, allZero, zeros}
 use Rattle.fields.specs.Digits.{le, array}
 use Rattle.headers.specs.declared.header.Header.{Header}
 use Rattle.headers.specs.Header.{Fit}
-use Rattle.headers.specs.Tests.{first}
+use Rattle.headers.specs.HeadTests.{first}
 use Rattle.headers.specs.Format.{unitOk}
 use Rattle.headers.specs.Layout.{Layout}
 use Rattle.lin.specs.declared.message.Message.{Message}
@@ -97,4 +98,4 @@ pub record ValidMessage (r : Message) : Type 0 where
   pub exact : tailOk (r .tail) ≡ true
 
 abbrev pub messageLayout : Layout Message
-messageLayout = record { kind = 57; header = λ r. r .header; body = message; of = messageOf; fault = messageFault; Valid = ValidMessage }
+messageLayout = record { header = λ r. r .header; body = message; of = messageOf; fault = messageFault; Valid = ValidMessage }

@@ -1,5 +1,5 @@
--- The three ends of a LIN message as bytes, which tails are valid, and "the size decides which". Offsets from the tail's start, which is 164
--- in the object.
+-- The three ends of a LIN message as bytes, which tails are valid, and "the size decides which". Offsets from the
+-- tail's start, which is 164 in the object.
 use Prim.Native.Nat.{ℕ, _<_, _^_}
 use mathlib.Core.Path.{_≡_}
 use mathlib.Core.Bool.{true}

@@ -1,4 +1,5 @@
--- Type 62, LIN wake-up 2, as bytes: what Fields reads, the other way round; its tests as the code makes them; which wake-ups are valid.
+-- Type 62, LIN wake-up 2, as bytes: what Fields reads, the other way round; its tests as the code makes them; which
+-- wake-ups are valid.
 use Prim.Native.Nat.{ℕ, _<_, _^_}
 use mathlib.Core.Path.{_≡_}
 use mathlib.Core.Bool.{true}
@@ -7,7 +8,7 @@ use Rattle.fields.specs.Numbers.{part, allZero, zeros}
 use Rattle.fields.specs.Digits.{le}
 use Rattle.headers.specs.declared.header.Header.{Header}
 use Rattle.headers.specs.Header.{Fit}
-use Rattle.headers.specs.Tests.{first}
+use Rattle.headers.specs.HeadTests.{first}
 use Rattle.headers.specs.Format.{unitOk}
 use Rattle.headers.specs.Layout.{Layout}
 use Rattle.lin.specs.declared.wake_up.WakeUp.{WakeUp}
@@ -39,4 +40,4 @@ pub record ValidWakeUp (r : WakeUp) : Type 0 where
   pub external : r .external < 256 ^ 1
 
 abbrev pub wakeUpLayout : Layout WakeUp
-wakeUpLayout = record { kind = 62; header = λ r. r .header; body = wakeUp; of = wakeUpOf; fault = wakeUpFault; Valid = ValidWakeUp }
+wakeUpLayout = record { header = λ r. r .header; body = wakeUp; of = wakeUpOf; fault = wakeUpFault; Valid = ValidWakeUp }

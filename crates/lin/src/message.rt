@@ -9,6 +9,7 @@ ghost use mathlib.Core.Bool.{true};
 ghost use Prim.Native.Nat.{_+_, _≤_};
 ghost use lib.ListN.{length};
 ghost use Rattle.fields.specs.Written.{Wrote};
+ghost use Rattle.headers.specs.Format.{headerOf, bodyOf};
 ghost use Rattle.lin.specs.Tail.{tail};
 ghost use Rattle.lin.specs.Fields.{tailOk, messageOf};
 ghost use Rattle.lin.specs.Message.{synch, descriptor, status, machines, message, messageFault};
@@ -58,16 +59,17 @@ pub fn message_fault(h: headers::Header, b: &[u8]) -> u32
     )
 }
 
-// The message of a header and a body.
-pub fn get_message(h: headers::Header, b: &[u8]) -> Message
-    requires { ⌜ 132 ≤ length (now b) ⌝ }
-    ensures { λ r. ⌜ r ≡ messageOf h (now (b .entry)) ⌝ }
+// The message that an object is.
+pub fn get_message(o: &[u8]) -> Message
+    requires { ⌜ 164 ≤ length (now o) ⌝ }
+    ensures { λ r. ⌜ r ≡ messageOf (headerOf (now (o .entry))) (bodyOf (now (o .entry))) ⌝ }
 {
+    let b = headers::body(o);
     let stamps = fields::get64x9(b, 40);
     let bytes = fields::get8x8(b, 112);
     let tail = get_tail(b);
     Message {
-        header: h,
+        header: headers::get_header(o),
         start: fields::get64(b, 0),
         baud: fields::get32(b, 8),
         channel: fields::get16(b, 12),

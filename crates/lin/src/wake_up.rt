@@ -4,6 +4,7 @@ ghost use mathlib.Core.Path.{_≡_};
 ghost use Prim.Native.Nat.{_+_, _≤_};
 ghost use lib.ListN.{length};
 ghost use Rattle.fields.specs.Written.{Wrote};
+ghost use Rattle.headers.specs.Format.{headerOf, bodyOf};
 ghost use Rattle.lin.specs.WakeUp.{wakeUp, wakeUpFault};
 ghost use Rattle.lin.specs.Fields.{wakeUpOf};
 
@@ -31,13 +32,14 @@ pub fn wake_up_fault(h: headers::Header, b: &[u8]) -> u32
     )
 }
 
-// The wake-up of a header and a body.
-pub fn get_wake_up(h: headers::Header, b: &[u8]) -> WakeUp
-    requires { ⌜ 20 ≤ length (now b) ⌝ }
-    ensures { λ r. ⌜ r ≡ wakeUpOf h (now (b .entry)) ⌝ }
+// The wake-up that an object is.
+pub fn get_wake_up(o: &[u8]) -> WakeUp
+    requires { ⌜ 52 ≤ length (now o) ⌝ }
+    ensures { λ r. ⌜ r ≡ wakeUpOf (headerOf (now (o .entry))) (bodyOf (now (o .entry))) ⌝ }
 {
+    let b = headers::body(o);
     WakeUp {
-        header: h,
+        header: headers::get_header(o),
         start: fields::get64(b, 0),
         baud: fields::get32(b, 8),
         channel: fields::get16(b, 12),

@@ -1,5 +1,5 @@
--- A read of each type answers with a record exactly where that record stands in the log as a valid item: one theorem, at each
--- type. Assumes nothing.
+-- A read of each type answers with a record exactly where that record stands in the log as a valid item: one theorem,
+-- at each type. Assumes nothing.
 use mathlib.Core.Path.{_≡_}
 use mathlib.Core.Logic.{_↔_}
 use mathlib.Core.List.{List}
@@ -7,10 +7,9 @@ use Prim.Native.Nat.{ℕ}
 use Rattle.fields.specs.Numbers.{Bytes}
 use Rattle.lin.specs.declared.message.Message.{Message}
 use Rattle.lin.specs.declared.wake_up.WakeUp.{WakeUp}
-use Rattle.objects.specs.Kinds.{linMessage, wakeUp}
-use Rattle.objects.specs.Items.{known}
-use Rattle.objects.proofs.Standing.{Stands}
-use Rattle.outcomes.specs.declared.Told.the-variants as told
+use Rattle.headers.specs.Types.{linMessage, wakeUp}
+use Rattle.objects.specs.Items.{known, Stands}
+use Rattle.outcomes.specs.declared.ReadAnswer.the-variants as told
 use Rattle.outcomes.specs.Reads.{lookAt, recordAt}
 use Rattle.outcomes.proofs.Reading.{read-exact}
 

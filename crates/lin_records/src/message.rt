@@ -1,33 +1,24 @@
 // LIN message 2, type 57.
 use headers::Header;
 use objects::Cursor;
-use outcomes::Told;
+use outcomes::ReadAnswer;
 use outcomes::Written;
 ghost use mathlib.Core.Path.{_≡_};
-ghost use Prim.Native.Nat.{_≤_};
-ghost use lib.ListN.{length};
-ghost use Rattle.objects.specs.Kinds.{linMessage};
+ghost use Rattle.headers.specs.Types.{linMessage};
 ghost use Rattle.objects.specs.Items.{known};
-ghost use Rattle.outcomes.specs.Reads.{recordOf, recordIn, Reads};
+ghost use Rattle.outcomes.specs.Reads.{recordIn, Reads};
 ghost use Rattle.outcomes.specs.Writes.{Outcome};
 
-const KIND: u32 = 57;
+const KIND: u32 = headers::LIN_MESSAGE;
 
 // Without a tail.
 const SIZE: usize = 164;
 
 // What a read is told, the next cursor, and the record: zeros but where it is told of one.
 pub struct MessageRead {
-    pub told: Told,
+    pub told: ReadAnswer,
     pub next: Cursor,
     pub value: lin::Message,
-}
-
-fn message_of(o: &[u8]) -> lin::Message
-    requires { ⌜ 164 ≤ length (now o) ⌝ }
-    ensures { λ r. ⌜ r ≡ recordOf linMessage (now (o .entry)) ⌝ }
-{
-    lin::get_message(headers::get_header(o), headers::body(o))
 }
 
 // The LIN message that an object's bytes are: zeros where they are too few.
@@ -35,9 +26,9 @@ pub fn message_in(o: &[u8]) -> lin::Message
     ensures { λ r. ⌜ r ≡ recordIn linMessage (now (o .entry)) ⌝ }
 {
     if o.len() < SIZE {
-        return message_of(&[0u8; SIZE]);
+        return lin::get_message(&[0u8; SIZE]);
     }
-    message_of(o)
+    lin::get_message(o)
 }
 
 // The LIN message at the cursor.
@@ -58,11 +49,11 @@ pub fn write_message(r: lin::Message, out: &mut [u8]) -> Written
     let h = r.header;
     let tail = r.tail;
     let size = SIZE as u32 + lin::tail_length(tail) as u32;
-    let number = outcomes::refuse(KIND, h.unit, lin::tail_ok(tail), size, out.len());
+    let rates = lin::tail_ok(tail);
+    let number = outcomes::begin(out, KIND, h, rates, size);
     if number != 0 {
         return Written::Refused { number, place: 0 };
     }
-    headers::put_header(out, KIND, size, h);
     lin::put_message(out, Header::LENGTH, r);
-    outcomes::close(out, size)
+    outcomes::pad(out, size)
 }

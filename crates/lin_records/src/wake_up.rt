@@ -1,32 +1,23 @@
 // LIN wake-up 2, type 62.
 use headers::Header;
 use objects::Cursor;
-use outcomes::Told;
+use outcomes::ReadAnswer;
 use outcomes::Written;
 ghost use mathlib.Core.Path.{_≡_};
-ghost use Prim.Native.Nat.{_≤_};
-ghost use lib.ListN.{length};
-ghost use Rattle.objects.specs.Kinds.{wakeUp};
+ghost use Rattle.headers.specs.Types.{wakeUp};
 ghost use Rattle.objects.specs.Items.{known};
-ghost use Rattle.outcomes.specs.Reads.{recordOf, recordIn, Reads};
+ghost use Rattle.outcomes.specs.Reads.{recordIn, Reads};
 ghost use Rattle.outcomes.specs.Writes.{Outcome};
 
-const KIND: u32 = 62;
+const KIND: u32 = headers::LIN_WAKE_UP;
 
 const SIZE: usize = 52;
 
 // What a read is told, the next cursor, and the record: zeros but where it is told of one.
 pub struct WakeUpRead {
-    pub told: Told,
+    pub told: ReadAnswer,
     pub next: Cursor,
     pub value: lin::WakeUp,
-}
-
-fn wake_up_of(o: &[u8]) -> lin::WakeUp
-    requires { ⌜ 52 ≤ length (now o) ⌝ }
-    ensures { λ r. ⌜ r ≡ recordOf wakeUp (now (o .entry)) ⌝ }
-{
-    lin::get_wake_up(headers::get_header(o), headers::body(o))
 }
 
 // The wake-up that an object's bytes are: zeros where they are too few.
@@ -34,9 +25,9 @@ pub fn wake_up_in(o: &[u8]) -> lin::WakeUp
     ensures { λ r. ⌜ r ≡ recordIn wakeUp (now (o .entry)) ⌝ }
 {
     if o.len() < SIZE {
-        return wake_up_of(&[0u8; SIZE]);
+        return lin::get_wake_up(&[0u8; SIZE]);
     }
-    wake_up_of(o)
+    lin::get_wake_up(o)
 }
 
 // The wake-up at the cursor.
@@ -55,11 +46,10 @@ pub fn write_wake_up(r: lin::WakeUp, out: &mut [u8]) -> Written
     ensures { λ w. ⌜ Outcome (known wakeUp r) w (now (out .entry)) (now (out .exit)) ⌝ }
 {
     let h = r.header;
-    let number = outcomes::refuse(KIND, h.unit, true, SIZE as u32, out.len());
+    let number = outcomes::begin(out, KIND, h, true, SIZE as u32);
     if number != 0 {
         return Written::Refused { number, place: 0 };
     }
-    headers::put_header(out, KIND, SIZE as u32, h);
     lin::put_wake_up(out, Header::LENGTH, r);
-    outcomes::close(out, SIZE as u32)
+    outcomes::pad(out, SIZE as u32)
 }

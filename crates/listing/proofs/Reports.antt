@@ -4,8 +4,8 @@ use mathlib.Core.List.{List}
 use Prim.Native.Nat.{ℕ, _≤_, _<_}
 use borrow.Author.Tests.{le-leb, lt-leb}
 use lib.ListN.{length, take}
-use Rattle.intake.specs.declared.Input.{Input}
-use Rattle.intake.specs.declared.Input.the-variants.{Bytes, Failed}
+use Rattle.input.specs.declared.Input.{Input}
+use Rattle.input.specs.declared.Input.the-variants.{Bytes, Failed}
 use Rattle.listing.specs.Text.{tooLong, noFile, Said}
 use Rattle.listing.specs.Listing.{listingOf, limit, pageOf, reportOf}
 

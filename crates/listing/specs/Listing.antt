@@ -1,30 +1,28 @@
 -- 01, "Two programs": what the lister prints.
-use Prim.Native.Nat.{ℕ, zero, suc, _+_}
+use Prim.Native.Nat.{ℕ}
 use mathlib.Core.Bool.{cond}
-use mathlib.Core.List.{List, [], _++_}
+use mathlib.Core.List.{List, [], _∷_, _++_}
 use lib.ListN.{length, take}
 use lib.Dec.{leb}
-use Rattle.objects.specs.declared.Answer.{Answer}
-use Rattle.objects.specs.declared.Answer.the-variants.{Object, Done, Refused}
-use Rattle.objects.specs.Next.{nextAt}
-use Rattle.intake.specs.declared.Input.{Input}
-use Rattle.intake.specs.declared.Input.the-variants.{Bytes, Failed}
+use Rattle.objects.specs.Named.{Entry}
+use Rattle.objects.specs.Stepping.{Ended, atEnd, refused, noStepLeft, metAt, objectsOf}
+use Rattle.input.specs.declared.Input.{Input}
+use Rattle.input.specs.declared.Input.the-variants.{Bytes, Failed}
 use Rattle.listing.specs.Text.{objectLine, endLine, refusedLine, tooLong, noFile}
 
--- the lines from a step on, with n objects behind it; `on` gives those behind an object
-abbrev pub listOn : (ℕ → List ℕ) → ℕ → ℕ → ℕ → Answer → List ℕ
-listOn on next len n (Object start size kind) = objectLine start size kind ++ on next
-listOn on next len n Done = endLine len n
-listOn on next len n (Refused number place) = refusedLine number place
+-- a line for each object
+abbrev pub linesOf : List Entry → List ℕ
+linesOf [] = []
+linesOf (o ∷ os) = objectLine (o .start) (o .size) (o .kind) ++ linesOf os
 
--- the lines from a place on, in at most `fuel` steps
-abbrev pub listFrom : ℕ → List ℕ → ℕ → ℕ → List ℕ
-listFrom zero s at n = []
-listFrom (suc fuel) s at n = listOn (λ next. listFrom fuel s next (n + 1)) (nextAt s at .next .at) (length s) n (nextAt s at .answer)
+-- the last line, behind n objects, by how the stepping ended and where
+abbrev pub lastLine : Ended → ℕ → ℕ → List ℕ
+lastLine atEnd n at = endLine at n
+lastLine (refused number) n at = refusedLine number at
+lastLine noStepLeft n at = []
 
--- every object has a byte at least, so a step for each byte and one to see the end are enough
 unfoldable pub listingOf : List ℕ → List ℕ
-listingOf s = listFrom (suc (length s)) s 0 0
+listingOf s = linesOf (objectsOf s) ++ lastLine (metAt s 0 .ended) (length (objectsOf s)) (metAt s 0 .at)
 
 -- the most bytes of an input
 abbrev pub limit : ℕ

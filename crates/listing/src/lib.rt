@@ -1,7 +1,7 @@
 // What the lister prints, made in a buffer, and the lines that the desk program prints.
 mod words;
 
-use intake::Input;
+use input::Input;
 use objects::Answer;
 use objects::Cursor;
 pub use words::accepted_line;
@@ -10,21 +10,21 @@ use words::object_line;
 pub use words::put;
 pub use words::refused_line;
 ghost use Prim.Native.Nat.{_+_, _*_, _≤_};
-ghost use mathlib.Core.Path.{_≡_};
 ghost use lib.ListN.{length};
-ghost use Rattle.intake.specs.Taken.{Taken};
+ghost use Rattle.input.specs.Zeros.{Zeros};
+ghost use Rattle.input.specs.Taken.{Within};
 ghost use Rattle.listing.specs.Text.{Said};
 ghost use Rattle.listing.specs.Listing.{listingOf, pageOf, reportOf};
 
 // Room for every report: four bytes for each byte of the log, and the last line.
 pub fn page() -> [u8; 262208]
-    ensures { λ r. ⌜ 262208 ≡ length r ⌝ }
+    ensures { λ r. ⌜ Zeros 262208 r ⌝ }
 {
     [0; 262208]
 }
 
 // The whole listing of a log, from the buffer's first byte on; it answers where it ends.
-pub fn list(log: &[u8], out: &mut [u8]) -> usize
+fn list(log: &[u8], out: &mut [u8]) -> usize
     requires { ⌜ 4 * length (now log) + 64 ≤ length (now out) ⌝ }
     ensures { λ r. ⌜ Said 0 (listingOf (now (log .entry))) (now (out .entry)) (now (out .exit)) r ⌝ }
 {
@@ -64,7 +64,7 @@ fn page_of(log: &[u8], out: &mut [u8]) -> usize
 
 // What the lister prints for what came of reading into a buffer.
 pub fn report(got: Input, buf: &[u8], out: &mut [u8]) -> usize
-    requires { ⌜ Taken got (now buf) × (262208 ≤ length (now out)) ⌝ }
+    requires { ⌜ Within got (now buf) × (262208 ≤ length (now out)) ⌝ }
     ensures { λ r. ⌜ Said 0 (reportOf got (now (buf .entry))) (now (out .entry)) (now (out .exit)) r ⌝ }
 {
     let Input::Bytes(n) = got else {

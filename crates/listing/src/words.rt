@@ -1,8 +1,7 @@
 // Words, numbers and lines, put at a place of a buffer: each function answers where its text ends.
 ghost use Prim.Native.Nat.{_+_, _≤_};
-ghost use mathlib.Core.Path.{_≡_};
 ghost use lib.ListN.{length};
-ghost use Rattle.listing.specs.Text.{text, said, lineOf, objectLine, endLine, refusedLine, acceptedLine, Said};
+ghost use Rattle.listing.specs.Text.{said, lineOf, objectLine, endLine, refusedLine, acceptedLine, Said};
 
 // A text.
 pub fn put(word: &[u8], out: &mut [u8], at: usize) -> usize

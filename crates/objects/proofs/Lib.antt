@@ -10,6 +10,5 @@ pub mod Walks
 pub mod Entries
 pub mod Exact
 pub mod Naming
-pub mod Refuted
 pub mod Answers
 pub mod ViewLaws

@@ -2,10 +2,11 @@ pub mod Kinds
 pub mod Table
 pub mod Next
 pub mod Walk
+pub mod Replies
 pub mod Logs
 pub mod Named
+pub mod Rising
 pub mod Views
-pub mod Given
 pub mod Faults
 pub mod Items
 pub mod Stepping

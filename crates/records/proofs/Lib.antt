@@ -3,3 +3,4 @@ pub mod ObjectLaws
 pub mod Copies
 pub mod Rewriting
 pub mod ForeignBack
+pub mod WriteRead

@@ -1,3 +1,4 @@
 pub mod Object
 pub mod Rewrite
 pub mod Copied
+pub mod ReadBack

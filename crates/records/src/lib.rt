@@ -1,8 +1,8 @@
 // An object's bytes written as its record, foreign objects written, and a log read and written again.
-mod again;
 mod foreign;
 mod object;
+mod whole_log;
 
-pub use again::rewrite;
 pub use foreign::write_foreign;
 pub use object::write_object;
+pub use whole_log::rewrite;

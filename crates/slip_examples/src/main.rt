@@ -1,4 +1,5 @@
-// Runs document 01's examples of slips, and of writing frames and foreign objects, and prints what came out: a line an example.
+// Runs document 01's examples of slips, and of writing frames and foreign objects, and prints what came out: a line an
+// example.
 mod samples;
 mod slip;
 mod tell;

@@ -1,5 +1,4 @@
 pub mod Format
 pub mod Trouble
 pub mod Theorems
-pub mod Refuted
 pub mod Loops

@@ -1,5 +1,4 @@
 -- What the check answers, said of logs and bundles.
-pub mod LogEntries
 pub mod Told
 pub mod Verdicts
 pub mod Sharing

@@ -1,12 +1,14 @@
--- 01, "Slips": "A bundle is zero to eight slips end to end, big-endian. A slip: u32 length of what follows that field, version
--- byte 1, desk byte, then entries of three u32: object start, object size without padding, type. Entries rise strictly by start;
--- desk bytes rise strictly along the bundle." `bundle-exact` of proofs/Format/Cuts says that these are the slips that Cut finds.
+-- 01, "Slips": "A bundle is zero to eight slips end to end, big-endian. A slip: u32 length of what follows that field,
+-- version byte 1, desk byte, then entries of three u32: object start, object size without padding, type. Entries rise
+-- strictly by start; desk bytes rise strictly along the bundle." `bundle-exact` of proofs/Format/Cuts says that these
+-- are the slips that Cut finds.
 use Prim.Native.Nat.{ℕ, _+_, _*_, _<_, _≤_}
 use mathlib.Core.Path.{_≡_}
 use mathlib.Core.List.{List, [], _∷_, _++_}
 use lib.ListN.{length}
 use Rattle.fields.specs.Digits.{be}
-use Rattle.objects.specs.Named.{Entry, Rising}
+use Rattle.objects.specs.Named.{Entry}
+use Rattle.objects.specs.Rising.{Rising}
 use Rattle.slips.specs.Cut.{Slip, slipLimit}
 
 -- as bytes

@@ -1,4 +1,4 @@
--- What an answer of the check claims: the theorems of proofs/Theorems/Verdicts say that it is given exactly where its claim holds.
+-- What an answer of the check claims; it is given exactly where its claim holds (proofs/Theorems/Verdicts).
 use Prim.Native.Nat.{ℕ, _≤_}
 use mathlib.Core.Path.{_≡_}
 use mathlib.Core.List.{List}
@@ -11,7 +11,10 @@ use Rattle.slips.specs.Cut.{Slip}
 use Rattle.slips.specs.Bundle.{BundleOf}
 use Rattle.slips.specs.Right.{entriesOn, Right}
 use Rattle.slips.specs.Trouble.{Found, First}
-use Rattle.slips.specs.Check.{longest}
+
+-- 28: the most bytes of a log
+abbrev pub longest : ℕ
+longest = 4294967295
 
 -- a log of allowed length and a bundle by the rule
 pub record Formed (s b : List ℕ) : Type 0 where
@@ -28,7 +31,8 @@ pub record LogRefused (s b : List ℕ) (k p : ℕ) : Type 0 where
   pub bundle : BundleOf b slips
   pub walk : walkOf s ≡ walked.Refused k p
 
--- accepted with n objects: the log is well formed with n objects, the slips are at most eight by the rule, and all is right
+-- accepted with n objects: the log is well formed with n objects, the slips are at most eight by the rule, and all is
+-- right
 pub record Honest (s b : List ℕ) (n : ℕ) : Type 0 where
   pub formed : Formed s b
   pub many : length (formed .objects) ≡ n

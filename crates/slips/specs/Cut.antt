@@ -1,12 +1,12 @@
--- 01, "Slips": 24 and 20 to 23, slip by slip, in the order of the table; the place is the slip's start in the bundle. t is what is
--- left of the bundle, and its offsets count from there.
+-- 01, "Slips": 24 and 20 to 23, slip by slip, in the order of the table; the place is the slip's start in the bundle.
+-- t is what is left of the bundle, and its offsets count from there.
 use Prim.Native.Nat.{ℕ, zero, suc, _+_, _-_, _/_, _%_}
 use mathlib.Core.Bool.{Bool, true, cond, _&&_}
 use mathlib.Core.List.{List, [], _∷_}
 use lib.ListN.{length, drop, getD}
 use lib.Dec.{eqb, leb}
 use Rattle.fields.specs.Numbers.{big}
-use Rattle.headers.specs.Tests.{first}
+use Rattle.headers.specs.HeadTests.{first}
 use Rattle.objects.specs.Named.{Entry}
 
 pub record Slip : Type 0 where
@@ -34,7 +34,8 @@ deskIn t = getD t 5 0
 abbrev pub slipIn : List ℕ → Slip
 slipIn t = record { desk = deskIn t; entries = entriesIn ((lengthIn t - 2) / 12) (drop 6 t) }
 
--- 20: fewer than 4 bytes remain for the length, it is below 2, 2 less is no multiple of 12, or the slip passes the bundle's end
+-- 20: fewer than 4 bytes remain for the length, it is below 2, 2 less is no multiple of 12, or the slip passes the
+-- bundle's end
 unfoldable pub shapeOk : List ℕ → Bool
 shapeOk t =
     leb 4 (length t)

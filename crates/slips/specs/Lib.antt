@@ -5,8 +5,7 @@ pub mod Claims
 pub mod Bundle
 pub mod Soonest
 pub mod Check
+pub mod Replies
 pub mod Share
 pub mod Kinds
-pub mod Samples
-pub mod Wrong
 pub mod Inner

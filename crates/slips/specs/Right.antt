@@ -1,4 +1,4 @@
--- What is right: every entry equals an object's start, size and type, and every object stands on exactly one slip, once.
+-- What is right: every entry is an object's start, size and type; every object stands on exactly one slip, once.
 use Prim.Native.Nat.{ℕ, _+_}
 use mathlib.Core.Path.{_≡_}
 use mathlib.Core.Bool.{Bool, cond, _&&_}

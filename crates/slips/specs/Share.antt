@@ -6,8 +6,11 @@ use mathlib.Core.List.{List, [], _∷_}
 use mathlib.Core.Logic.{_⊎_}
 use lib.ListN.{length}
 use lib.Dec.{eqb}
+use Rattle.fields.specs.Numbers.{Bytes}
 use Rattle.objects.specs.Named.{Entry, In}
+use Rattle.slips.specs.declared.pass.Verdict.the-variants.{Accepted}
 use Rattle.slips.specs.Cut.{Slip, slipLimit}
+use Rattle.slips.specs.Check.{checkOf}
 
 -- the objects of desk d, where `who` says whose an object is
 abbrev pub picks : (Entry → ℕ) → ℕ → List Entry → List Entry
@@ -33,3 +36,8 @@ pub record Sharing (who : Entry → ℕ) (ds : List ℕ) (os : List Entry) : Typ
   pub few : length ds ≤ slipLimit
   pub desks : Desks 0 ds
   pub all : (o : Entry) → In o os → Among (who o) ds
+
+-- the bundle is bytes, and accepted with as many objects as the log has
+pub record Passes (s : List ℕ) (is : List (List ℕ)) (b : List ℕ) : Type 0 where
+  pub bytes : Bytes b
+  pub accepted : checkOf s b ≡ Accepted (length is)

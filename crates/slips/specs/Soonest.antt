@@ -1,4 +1,5 @@
--- The trouble of specs/Trouble as a function; `trouble-first` of proofs/Trouble/Troubles says that it is the one claimed there.
+-- The trouble of specs/Trouble as a function; `trouble-first` of proofs/Trouble/Troubles says that it is the one
+-- claimed there.
 use mathlib.Core.Bool.{cond, _&&_, _||_}
 use mathlib.Core.List.{List, [], _∷_}
 use lib.Dec.{eqb, leb, ltb}

@@ -69,8 +69,8 @@ fn shape_ok(t: &[u8]) -> bool
     4 + n <= t.len()
 }
 
-// What refuses the slip that what is left of a bundle begins with: 20, 21, 22, 23, or 0 for nothing. Its desk must be at
-// least this.
+// What refuses the slip that what is left of a bundle begins with: 20, 21, 22, 23, or 0 for nothing. Its desk must be
+// at least this.
 fn fault(t: &[u8], least: usize) -> u32
     ensures { λ r. ⌜ r ≡ faultOf (now (t .entry)) least ⌝ }
 {

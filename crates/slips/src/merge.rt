@@ -4,10 +4,10 @@ use crate::bundle::Place;
 ghost use mathlib.Core.Path.{_≡_};
 ghost use Prim.Native.Nat.{min};
 ghost use Rattle.slips.specs.Inner.Places.{Placed, AllPlaced};
-ghost use Rattle.slips.specs.Inner.Merge.{headAt, mergedOf};
+ghost use Rattle.slips.specs.Inner.Merge.{compareAt, mergedOf};
 
 // The next entry of a slip beside an object: it starts above it or there is none, it names it, or it is a stray.
-pub enum Head {
+pub enum Compared {
     Miss,
     Hit,
     Stray(usize),
@@ -26,28 +26,28 @@ impl Merged {
 }
 
 // What the next entry of a slip is to this object: start, size and type are compared, as whole numbers.
-fn look(p: Place, b: &[u8], start: usize, size: usize, kind: u32) -> Head
+fn compare(p: Place, b: &[u8], start: usize, size: usize, kind: u32) -> Compared
     requires { ⌜ Placed (now b) p ⌝ }
-    ensures { λ r. ⌜ r ≡ headAt (now (b .entry)) (record { start = start; size = size; kind = kind }) p ⌝ }
+    ensures { λ r. ⌜ r ≡ compareAt (now (b .entry)) (record { start = start; size = size; kind = kind }) p ⌝ }
 {
     let at = p.at;
     if p.end <= at {
-        return Head::Miss;
+        return Compared::Miss;
     }
     let s = fields::get32_be(b, at) as usize;
     if start < s {
-        return Head::Miss;
+        return Compared::Miss;
     }
     if s != start {
-        return Head::Stray(s);
+        return Compared::Stray(s);
     }
     if fields::get32_be(b, at + 4) as usize != size {
-        return Head::Stray(s);
+        return Compared::Stray(s);
     }
     if fields::get32_be(b, at + 8) != kind {
-        return Head::Stray(s);
+        return Compared::Stray(s);
     }
-    Head::Hit
+    Compared::Hit
 }
 
 fn lesser(a: usize, b: usize) -> usize
@@ -76,15 +76,15 @@ pub(crate) fn advance(
     let mut i: usize = 0;
     while i < Bundle::SLIPS {
         let p = out[i];
-        match look(p, b, start, size, kind) {
-            Head::Miss => {}
-            Head::Hit => {
+        match compare(p, b, start, size, kind) {
+            Compared::Miss => {}
+            Compared::Hit => {
                 hits += 1;
                 let at = p.at;
                 let end = p.end;
                 out[i] = Place { at: at + 12, end };
             }
-            Head::Stray(s) => {
+            Compared::Stray(s) => {
                 low = lesser(s, low);
             }
         }

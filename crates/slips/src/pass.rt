@@ -9,7 +9,7 @@ use objects::Cursor;
 ghost use mathlib.Core.Path.{_≡_};
 ghost use Rattle.slips.specs.Check.{checkOf};
 ghost use Rattle.slips.specs.Inner.Places.{AllPlaced};
-ghost use Rattle.slips.specs.Inner.Pass.{restOf, endOf, layOf};
+ghost use Rattle.slips.specs.Inner.Pass.{walkOnOf, atEndOf, mergeLogOf};
 
 // Accepted with the number of the log's objects, or refused by a number at a place.
 pub enum Verdict {
@@ -30,8 +30,8 @@ const LONG: u32 = 28;
 const LONGEST: usize = 4294967295;
 
 // Trouble is met: the walk goes on alone, and the trouble is told where it ends well.
-fn rest(log: &[u8], from: Cursor, number: u32, place: usize) -> Verdict
-    ensures { λ r. ⌜ r ≡ restOf (now (log .entry)) (from .at) number place ⌝ }
+fn walk_on(log: &[u8], from: Cursor, number: u32, place: usize) -> Verdict
+    ensures { λ r. ⌜ r ≡ walkOnOf (now (log .entry)) (from .at) number place ⌝ }
 {
     let mut c = from;
     loop {
@@ -64,9 +64,9 @@ fn rest(log: &[u8], from: Cursor, number: u32, place: usize) -> Verdict
 }
 
 // Behind the last of n objects: an entry that is left is stray.
-fn end(b: &[u8], places: [Place; Bundle::SLIPS], n: usize) -> Verdict
+fn at_end(b: &[u8], places: [Place; Bundle::SLIPS], n: usize) -> Verdict
     requires { ⌜ AllPlaced (now b) places ⌝ }
-    ensures { λ r. ⌜ r ≡ endOf (now (b .entry)) places n ⌝ }
+    ensures { λ r. ⌜ r ≡ atEndOf (now (b .entry)) places n ⌝ }
 {
     let m = advance(places, b, Merged::PAST, 0, 0);
     if m.low < Merged::PAST {
@@ -79,9 +79,9 @@ fn end(b: &[u8], places: [Place; Bundle::SLIPS], n: usize) -> Verdict
 }
 
 // The walk and the merge together: how many objects there are, or the first refusal.
-fn lay(log: &[u8], b: &[u8], places: [Place; Bundle::SLIPS]) -> Verdict
+fn merge_log(log: &[u8], b: &[u8], places: [Place; Bundle::SLIPS]) -> Verdict
     requires { ⌜ AllPlaced (now b) places ⌝ }
-    ensures { λ r. ⌜ r ≡ layOf (now (log .entry)) (now (b .entry)) places ⌝ }
+    ensures { λ r. ⌜ r ≡ mergeLogOf (now (log .entry)) (now (b .entry)) places ⌝ }
 {
     let mut c = Cursor::new();
     let mut slips = places;
@@ -96,19 +96,19 @@ fn lay(log: &[u8], b: &[u8], places: [Place; Bundle::SLIPS]) -> Verdict
                     return Verdict::Refused { number, place };
                 }
                 _ => {
-                    return end(b, slips, n);
+                    return at_end(b, slips, n);
                 }
             }
         };
         let m = advance(slips, b, start, size, kind);
         if m.low < Merged::PAST {
-            return rest(log, next, STRAY, m.low);
+            return walk_on(log, next, STRAY, m.low);
         }
         if m.hits == 0 {
-            return rest(log, next, UNLISTED, start);
+            return walk_on(log, next, UNLISTED, start);
         }
         if m.hits != 1 {
-            return rest(log, next, TWICE, start);
+            return walk_on(log, next, TWICE, start);
         }
         let moved = m.places;
         slips = moved;
@@ -135,5 +135,5 @@ pub fn check(log: &[u8], bundle: &[u8]) -> Verdict
         };
     }
     let places = cut.places;
-    lay(log, bundle, places)
+    merge_log(log, bundle, places)
 }

@@ -1,7 +1,8 @@
-//! An independent implementation of document 01 (01-scope.md), in plain safe
-//! Rust. It was written from the document alone, to be compared with the
-//! proved library. Where the document can be read in two ways, the readings of
-//! OPEN-POINTS.md hold (points 1 to 15).
+//! An independent implementation of document 01 in plain safe Rust, to be
+//! compared with the proved library. Document 01, "the paper" in comments
+//! here, is what the project was built from; docs/FORMAT.md tells the same in
+//! other words. This crate was written from the paper alone. Where that can be
+//! read in two ways, points 1 to 15 of docs/DECISIONS.md hold.
 //!
 //! * [`layout`]: header, type list, padding, refusal numbers
 //! * [`object`]: the next object, the walk, the views

@@ -5,13 +5,14 @@ use mathlib.Core.List.{List}
 use borrow.Author.Needs.{needs}
 use Rattle.objects.specs.declared.Answer.{Answer}
 use Rattle.objects.specs.declared.Step.{Step}
-use Rattle.exported.specs.Replies.{Reply, lent, answerReply, stepReply}
+use Rattle.objects.specs.Replies.{answerReply}
+use Rattle.exported.specs.Replies.{Reply, lent, nextReply, stepReply}
 use Rattle.exported.proofs.mshelovat_step.Statement.{statement}
 use Rattle.exported.proofs.mshelovat_step.Tie as tie
 
 -- what is told of an answer that is known is told of the step
-of-step : {r : Reply} {s t : Step} {a : Answer} (xs : List ℕ) → s .answer ≡ a → s ≡ t → r ≡ lent (answerReply a (s .next .at)) xs → r ≡ lent (stepReply t) xs
-of-step {s = s} xs e same told = told ∙ ap (λ (x : Answer). lent (answerReply x (s .next .at)) xs) (sym e) ∙ ap (λ (x : Step). lent (stepReply x) xs) same
+of-step : {r : Reply} {s t : Step} {a : Answer} (xs : List ℕ) → s .answer ≡ a → s ≡ t → r ≡ lent (nextReply (answerReply a) (s .next .at)) xs → r ≡ lent (stepReply t) xs
+of-step {s = s} xs e same told = told ∙ ap (λ (x : Answer). lent (nextReply (answerReply x) (s .next .at)) xs) (sym e) ∙ ap (λ (x : Step). lent (stepReply x) xs) same
 
 returns : tie.Need-returns
 returns c = of-step _ (c .before .before .before .before .before .answer .given .1) (c .before .before .before .before .before .before .before .before .step .ensures) (c .before .before .tell-four .ensures)

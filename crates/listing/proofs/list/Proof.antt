@@ -1,4 +1,5 @@
--- `listing::list` meets its contract: before each turn the lines so far stand in the buffer (`Listing`), and each way out of the loop is one of its laws. Assumes nothing.
+-- `listing::list` meets its contract: before each turn the lines so far stand in the buffer (`Listing`), and each way
+-- out of the loop is one of its laws. Assumes nothing.
 use mathlib.Core.Path.{_∙_}
 use Prim.Native.Nat.{_-_}
 use native.Mathlib.Omega.{arith}

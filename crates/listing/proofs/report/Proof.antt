@@ -1,5 +1,5 @@
 -- `listing::report` meets its contract: a law for each way in which reading ended. Assumes nothing.
-use Rattle.intake.proofs.Inputs.{taken, failed}
+use Rattle.input.proofs.Inputs.{taken, failed}
 use Rattle.listing.specs.Text.{noFile}
 use Rattle.listing.proofs.Reports.{unread, was-read}
 use borrow.Author.Needs.{needs}

@@ -10,7 +10,7 @@ use lib.ListN.{length, drop}
 use lib.Dec.{eqb}
 use Rattle.fields.specs.Numbers.{Bytes}
 use Rattle.fields.proofs.Parts.{drop-bytes}
-use Rattle.headers.specs.Tests.{first}
+use Rattle.headers.specs.HeadTests.{first}
 use Rattle.slips.specs.Cut.{Slip, slipLimit, lengthIn, deskIn, slipIn, faultOf, Cut, Slips, Fault, onto, orFault, cutFrom, cutOf}
 use Rattle.slips.specs.Bundle.{slipBytes, bundleBytes, AllByRule, BundleOf}
 use Rattle.slips.proofs.Format.SlipFaults.{Whole, no-fault, fault-none}

@@ -13,7 +13,8 @@ use Rattle.fields.specs.Digits.{be}
 use Rattle.fields.proofs.Parts.{drop-bytes}
 use Rattle.fields.proofs.Reading.{more}
 use Rattle.fields.proofs.Zeros.{both-true}
-use Rattle.objects.specs.Named.{Entry, Above, Rising}
+use Rattle.objects.specs.Named.{Entry}
+use Rattle.objects.specs.Rising.{Above, Rising}
 use Rattle.slips.specs.Bundle.{entryBytes, entriesBytes, Fits, AllFit}
 use Rattle.slips.specs.Cut.{entryIn, entriesIn, risesFrom}
 use Rattle.slips.proofs.Trouble.Entries.{entry-same}

@@ -1,4 +1,5 @@
--- Slips and their bytes: a slip that is read was written, and a slip by the rule that was written is read. Assumes nothing.
+-- Slips and their bytes: a slip that is read was written, and a slip by the rule that was written is read. Assumes
+-- nothing.
 use mathlib.Core.Path.{_≡_, sym, ap, subst, _∙_}
 use mathlib.Core.List.{List, _∷_, _++_, append-assoc}
 use Prim.Native.Nat.{ℕ, _+_, _-_, _*_, _/_, _≤_}

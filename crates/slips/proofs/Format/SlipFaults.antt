@@ -8,7 +8,7 @@ use borrow.Author.Tests.{le-leb, lt-leb, eq-eqb, ne-eqb, leb-true, eqb-true}
 use lib.ListN.{length, drop, getD}
 use lib.Dec.{leb, eqb}
 use Rattle.fields.proofs.Zeros.{both-true}
-use Rattle.headers.specs.Tests.{first}
+use Rattle.headers.specs.HeadTests.{first}
 use Rattle.headers.proofs.Heads.{clear}
 use Rattle.slips.specs.Bundle.{slipLength}
 use Rattle.slips.specs.Cut.{lengthIn, deskIn, slipIn, shapeOk, risesFrom, faultOf}

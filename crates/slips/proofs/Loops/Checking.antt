@@ -1,4 +1,5 @@
--- `check` puts the bundle's reading and the one pass together; the merge of the places is the trouble of the slips. Assumes nothing.
+-- `check` puts the bundle's reading and the one pass together; the merge of the places is the trouble of the slips.
+-- Assumes nothing.
 use mathlib.Core.Path.{_≡_, refl, ap, _∙_}
 use mathlib.Core.List.{List, [], _∷_, _++_}
 use Prim.Native.Nat.{ℕ, zero, suc, _+_, _-_, _<_, _≤_}
@@ -8,22 +9,24 @@ use lib.ListN.{length, replicate}
 use Rattle.fields.specs.Numbers.{Bytes}
 use Rattle.objects.specs.declared.Walked.{Walked}
 use Rattle.objects.specs.declared.Walked.the-variants as walked
+use Rattle.objects.specs.Named.{Entry}
+use Rattle.objects.specs.Rising.{Rising}
+use Rattle.objects.specs.Stepping.{objectsOf}
 use Rattle.objects.specs.Walk.{walkOf}
-use Rattle.objects.specs.Named.{Entry, Rising}
-use Rattle.objects.proofs.Naming.{walk-exact, entries-rise}
+use Rattle.objects.proofs.Naming.{walk-exact, log-objects, entries-rise}
 use Rattle.slips.specs.declared.bundle.Bundle.{Bundle}
 use Rattle.slips.specs.declared.pass.Verdict.the-variants.{Refused}
 use Rattle.slips.specs.Cut.{Slip, slipLimit, Cut, Slips, Fault, cutOf}
 use Rattle.slips.specs.Bundle.{AllFit, AllByRule}
 use Rattle.slips.specs.Right.{entriesOn, timesAll}
 use Rattle.slips.specs.Trouble.{Trouble}
+use Rattle.slips.specs.Claims.{longest}
 use Rattle.slips.specs.Soonest.{sooner, soonest, soonestOn, stray, miscount, troubleOf}
-use Rattle.slips.specs.Check.{longest, objectsOf, answerOf, checkOf}
+use Rattle.slips.specs.Check.{answerOf, checkOf}
 use Rattle.slips.specs.Inner.Places.{placesOf, nowhere, placed, AllPlaced, slipsAt}
 use Rattle.slips.specs.Inner.Merge.{mergeOf}
-use Rattle.slips.specs.Inner.Pass.{layOf}
+use Rattle.slips.specs.Inner.Pass.{mergeLogOf}
 use Rattle.slips.proofs.Format.Cuts.{bundle-exact, fault-number}
-use Rattle.slips.proofs.Theorems.LogEntries.{log-entries}
 use Rattle.slips.proofs.Loops.Standing.{Stands, cut-stands, fill-placed, fill-slips}
 use Rattle.slips.proofs.Loops.Beside.{AllRising, Low, AllLow}
 use Rattle.slips.proofs.Loops.Merges.{merge-is}
@@ -113,15 +116,15 @@ module _ (b : List ℕ) (r : Bundle) where
         merged : (n : ℕ) → walkOf s ≡ walked.Count n → mergeOf (objectsOf s) (slipsAt b (r .places)) ≡ troubleOf (objectsOf s) (entriesOn slips)
         merged n e =
             let i = walk-exact s n .0 e in
-            let up : Rising (objectsOf s) = rw (log-entries bs (i .1)) (entries-rise (i .1)) in
+            let up : Rising (objectsOf s) = rw (log-objects (i .1)) (entries-rise (i .1)) in
             let rule = bundle-exact b slips bb .0 cut .rule in
             let m = slipLimit - length slips in
             rw entries (merge-is (objectsOf s) up _ (rule-rise 0 slips m rule) (rule-low 0 slips m rule) ∙ trouble-fill (objectsOf s) (entriesOn slips) m)
 
-        laid : (w : Walked) → walkOf s ≡ w → answerOf w (mergeOf (objectsOf s) (slipsAt b (r .places))) ≡ answerOf w (troubleOf (objectsOf s) (entriesOn slips))
-        laid (walked.Count n) e = rw (merged n e)
-        laid (walked.Refused k p) e = refl
+        answered : (w : Walked) → walkOf s ≡ w → answerOf w (mergeOf (objectsOf s) (slipsAt b (r .places))) ≡ answerOf w (troubleOf (objectsOf s) (entriesOn slips))
+        answered (walked.Count n) e = rw (merged n e)
+        answered (walked.Refused k p) e = refl
 
-        pub read-laid : length s ≤ longest → layOf s b (r .places) ≡ checkOf s b
-        unfolding layOf checkOf
-        read-laid l = rw (le-ltb longest (length s) l, cut) (laid (walkOf s) refl)
+        pub read-merged : length s ≤ longest → mergeLogOf s b (r .places) ≡ checkOf s b
+        unfolding mergeLogOf checkOf
+        read-merged l = rw (le-ltb longest (length s) l, cut) (answered (walkOf s) refl)

@@ -1,4 +1,5 @@
--- The starts of entries, as `rises` climbs them: what it knows before each turn, and what each way out answers. Assumes nothing.
+-- The starts of entries, as `rises` climbs them: what it knows before each turn, and what each way out answers. Assumes
+-- nothing.
 use mathlib.Core.Path.{_≡_, ap, _∙_}
 use mathlib.Core.Bool.{true, false}
 use mathlib.Core.List.{List, _∷_}

@@ -31,18 +31,18 @@ onto-snoc ss s (Fault k p) = refl
 
 -- where the slips end
 
-abbrev endOf : ℕ → List Slip → ℕ
-endOf at [] = at
-endOf at (s ∷ ss) = endOf (at + (4 + slipLength s)) ss
+abbrev slipsEnd : ℕ → List Slip → ℕ
+slipsEnd at [] = at
+slipsEnd at (s ∷ ss) = slipsEnd (at + (4 + slipLength s)) ss
 
-end-snoc : (at : ℕ) (ss : List Slip) (s : Slip) → endOf at (ss ++ (s ∷ [])) ≡ endOf at ss + (4 + slipLength s)
+end-snoc : (at : ℕ) (ss : List Slip) (s : Slip) → slipsEnd at (ss ++ (s ∷ [])) ≡ slipsEnd at ss + (4 + slipLength s)
 end-snoc at [] s = refl
 end-snoc at (x ∷ ss) s = end-snoc (at + (4 + slipLength x)) ss s
 
 abbrev placeOf : ℕ → Slip → Place
 placeOf at s = record { at = at + 6; end = at + (4 + slipLength s) }
 
-places-snoc : (at : ℕ) (ss : List Slip) (s : Slip) → placesOf at (ss ++ (s ∷ [])) ≡ placesOf at ss ++ (placeOf (endOf at ss) s ∷ [])
+places-snoc : (at : ℕ) (ss : List Slip) (s : Slip) → placesOf at (ss ++ (s ∷ [])) ≡ placesOf at ss ++ (placeOf (slipsEnd at ss) s ∷ [])
 places-snoc at [] s = refl
 places-snoc at (x ∷ ss) s = ap (λ (l : List Place). placeOf at x ∷ l) (places-snoc (at + (4 + slipLength x)) ss s)
 
@@ -57,7 +57,7 @@ pub record Cutting (b : List ℕ) (places : List Place) (at least i : ℕ) : Typ
   pub desk : least ≤ 256
   pub list : List Slip
   pub many : length list ≡ i
-  pub ends : endOf 0 list ≡ at
+  pub ends : slipsEnd 0 list ≡ at
   pub filling : places ≡ placesOf 0 list ++ replicate (slipLimit - i) nowhere
   pub same : ontoAll list (cutFrom (slipLimit - i) (drop at b) at least) ≡ cutOf b
 
@@ -112,7 +112,7 @@ module _ (b : List ℕ) (places : List Place) (at least i : ℕ) (c : Cutting b 
           let rest : List ℕ → Cut = λ x. cutFrom (slipLimit - (i + 1)) x (at + (4 + lengthIn t)) (deskIn t + 1) in
           let y : slipLimit - i ≡ suc (slipLimit - (i + 1)) = omega (arith, c .few) in
           let r : places ≡ placesOf 0 (c .list) ++ replicate (suc (slipLimit - (i + 1))) nowhere = rw y at (c .filling) in
-          let p : record { at = at + 6; end = at + (4 + lengthIn t) } ≡ placeOf (endOf 0 (c .list)) s =
+          let p : record { at = at + 6; end = at + (4 + lengthIn t) } ≡ placeOf (slipsEnd 0 (c .list)) s =
           ap (λ (x : ℕ). record { at = at + 6; end = at + (4 + x) }) (w .told) ∙ ap (λ (x : ℕ). placeOf x s) (sym (c .ends)) in
           record {
             few = omega (arith, c .few);

@@ -1,4 +1,5 @@
--- The merge of rising objects and rising slips gives the first trouble, so that it is the trouble of specs/Trouble. Assumes nothing.
+-- The merge of rising objects and rising slips gives the first trouble, so that it is the trouble of specs/Soonest.
+-- Assumes nothing.
 use mathlib.Core.Path.{_≡_, refl, _∙_}
 use mathlib.Core.Bool.{Bool, true, false, cond}
 use mathlib.Core.List.{List, [], _∷_}
@@ -7,7 +8,8 @@ use Prim.Native.Nat.{ℕ, _<_, _≤_}
 use native.Mathlib.Omega.{arith}
 use borrow.Author.Tests.{lt-ltb, eqb-true, eqb-false}
 use lib.Dec.{eqb}
-use Rattle.objects.specs.Named.{Entry, In, Above, Rising}
+use Rattle.objects.specs.Named.{Entry, In}
+use Rattle.objects.specs.Rising.{Above, Rising}
 use Rattle.slips.specs.Right.{timesAll}
 use Rattle.slips.specs.Trouble.{StrayAt, TwiceAt, UnlistedAt, InTrouble, Trouble, None, Found, First}
 use Rattle.slips.specs.Soonest.{troubleOf}

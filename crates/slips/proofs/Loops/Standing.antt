@@ -13,32 +13,32 @@ use Rattle.slips.specs.Cut.{Slip, lengthIn, deskIn, slipIn, Slips, cutFr
 use Rattle.slips.specs.Bundle.{slipLength}
 use Rattle.slips.specs.Right.{entriesOn, same}
 use Rattle.slips.specs.Inner.Places.{placesOf, nowhere, AllPlaced, slipAt, slipsAt}
-use Rattle.slips.specs.Inner.Merge.{headAt, movePlace, movedOf, hitsOf, lowOf, mergedOf}
+use Rattle.slips.specs.Inner.Merge.{compareAt, movePlace, movedOf, hitsOf, lowOf, mergedOf}
 use Rattle.slips.proofs.Format.EntryBytes.{entries-many}
 use Rattle.slips.proofs.Format.Cuts.{next-slip, last-slip}
 use Rattle.slips.proofs.Loops.Beside.{hits, low, moves}
-use Rattle.slips.proofs.Loops.Looking.{slip-many, moved-one, moved-slip}
+use Rattle.slips.proofs.Loops.Comparing.{slip-many, moved-one, moved-slip}
 
 -- all slips
 module _ (b : List ℕ) (o : Entry) where
-  all-hits : (ps : List Place) → hitsOf (headAt b o) ps ≡ hits o (slipsAt b ps)
-  unfolding headAt
+  all-hits : (ps : List Place) → hitsOf (compareAt b o) ps ≡ hits o (slipsAt b ps)
+  unfolding compareAt
   all-hits [] = refl
   all-hits (p ∷ ps) = rw (all-hits ps)
 
-  all-lows : (ps : List Place) → lowOf (headAt b o) ps ≡ low o (slipsAt b ps)
-  unfolding headAt
+  all-lows : (ps : List Place) → lowOf (compareAt b o) ps ≡ low o (slipsAt b ps)
+  unfolding compareAt
   all-lows [] = refl
   all-lows (p ∷ ps) = rw (all-lows ps)
 
-  all-moves : (ps : List Place) → AllPlaced b ps → slipsAt b (movedOf movePlace (headAt b o) ps) ≡ moves o (slipsAt b ps)
-  unfolding headAt
+  all-moves : (ps : List Place) → AllPlaced b ps → slipsAt b (movedOf movePlace (compareAt b o) ps) ≡ moves o (slipsAt b ps)
+  unfolding compareAt
   all-moves [] w = refl
-  all-moves (p ∷ ps) w = rw (moved-slip b p o (w .0) (headAt b o p) refl, all-moves ps (w .1))
+  all-moves (p ∷ ps) w = rw (moved-slip b p o (w .0) (compareAt b o p) refl, all-moves ps (w .1))
 
-  all-placed : (ps : List Place) → AllPlaced b ps → AllPlaced b (movedOf movePlace (headAt b o) ps)
+  all-placed : (ps : List Place) → AllPlaced b ps → AllPlaced b (movedOf movePlace (compareAt b o) ps)
   all-placed [] w = tt
-  all-placed (p ∷ ps) w = (moved-one b p o (w .0) (headAt b o p) refl, all-placed ps (w .1))
+  all-placed (p ∷ ps) w = (moved-one b p o (w .0) (compareAt b o p) refl, all-placed ps (w .1))
 
 -- what a merge at places says of the entries there
 pub record Turned (b : List ℕ) (o : Entry) (ps : List Place) (m : Merged) : Type 0 where

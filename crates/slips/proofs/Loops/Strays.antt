@@ -9,7 +9,7 @@ use borrow.Author.Tests.{ltb-true, ltb-false}
 use lib.Dec.{ltb}
 use Rattle.objects.specs.Named.{Entry, In}
 use Rattle.slips.specs.Right.{On}
-use Rattle.slips.specs.Inner.Merge.{headOf, lower}
+use Rattle.slips.specs.Inner.Merge.{compareOf, lower}
 use Rattle.slips.proofs.Loops.Beside.{low, AllRising, Low, AllLow, Strayed, Fine, beside, fine-lower, AllFine, all-low, all-least, in-low}
 
 -- the lowest of the strays
@@ -23,12 +23,12 @@ pub record Strays (o : Entry) (ss : List (List Entry)) : Type 0 where
 
 module _ (o : Entry) (s : List Entry) (ss : List (List Entry)) where
   -- the strays behind a slip have the lowest of all
-  behind : (t : Strays o ss) → lower (headOf o s) (low o ss) ≡ t .entry .start → ((e : Entry) → In e s → t .entry .start ≤ e .start) → Strays o (s ∷ ss)
+  behind : (t : Strays o ss) → lower (compareOf o s) (low o ss) ≡ t .entry .start → ((e : Entry) → In e s → t .entry .start ≤ e .start) → Strays o (s ∷ ss)
   behind t z l =
       record { entry = t .entry; here = inr (t .here); is = z; not-above = t .not-above; other = t .other; lowest = λ e. ⊎-elim (l e) (t .lowest e) }
 
   -- the slip's own stray is the lowest of all
-  front : (u : Strayed o s) → lower (headOf o s) (low o ss) ≡ u .entry .start → ((e : Entry) → On e ss → u .entry .start ≤ e .start) → Strays o (s ∷ ss)
+  front : (u : Strayed o s) → lower (compareOf o s) (low o ss) ≡ u .entry .start → ((e : Entry) → On e ss → u .entry .start ≤ e .start) → Strays o (s ∷ ss)
   front u z l =
       record { entry = u .entry; here = inl (u .here); is = z; not-above = u .not-above; other = u .other; lowest = λ e. ⊎-elim (u .lowest e) (l e) }
 
@@ -40,15 +40,15 @@ module _ (o : Entry) (s : List Entry) (ss : List (List Entry)) where
   before-fine : Strayed o s → AllFine o ss → Low s → Strays o (s ∷ ss)
   before-fine u f w =
       let l = in-low (u .entry) s w (u .here) in
-      front u (rw (u .head) (omega (arith, all-low o ss f, l))) (λ e j. let m = all-least o ss f e j in let n = u .not-above in omega arith)
+      front u (rw (u .compared) (omega (arith, all-low o ss f, l))) (λ e j. let m = all-least o ss f e j in let n = u .not-above in omega arith)
 
   both : (u : Strayed o s) (t : Strays o ss) (b : Bool) → ltb (t .entry .start) (u .entry .start) ≡ b → Strays o (s ∷ ss)
   both u t true e =
       let l : t .entry .start < u .entry .start = ltb-true _ _ e in
-      behind t (rw (u .head) (omega (arith, t .is, l))) (λ e j. let m = u .lowest e j in omega (arith, l))
+      behind t (rw (u .compared) (omega (arith, t .is, l))) (λ e j. let m = u .lowest e j in omega (arith, l))
   both u t false e =
       let l : u .entry .start ≤ t .entry .start = ltb-false _ _ e in
-      front u (rw (u .head) (omega (arith, t .is, l))) (λ e j. let m = t .lowest e j in omega (arith, l))
+      front u (rw (u .compared) (omega (arith, t .is, l))) (λ e j. let m = t .lowest e j in omega (arith, l))
 
 pub sort : (o : Entry) (ss : List (List Entry)) → AllRising ss → AllLow ss → AllFine o ss ⊎ Strays o ss
 sort o [] r w = inl tt

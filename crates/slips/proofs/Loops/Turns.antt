@@ -1,5 +1,5 @@
--- One slip more: what `advance` knows when the first i slips are moved, and what each arm of its match adds. For any rule h that
--- says what the head of a slip is. Assumes nothing.
+-- One slip more: what `advance` knows when the first i slips are moved, and what each arm of its match adds. For any
+-- rule h that says what the next entry of a slip is to the object. Assumes nothing.
 use mathlib.Core.Path.{_≡_, refl, sym, ap, _∙_}
 use mathlib.Core.List.{List, [], _∷_, _++_, append-nil}
 use Prim.Native.Nat.{ℕ, zero, suc, _+_, _<_, _≤_, min}
@@ -8,8 +8,8 @@ use native.Mathlib.Numerals.{add-one}
 use lib.ListN.{length, getD, take, drop, set, drop-of-length-le}
 use lib.Seq.{take-suc, drop-cons, append-snoc, take-all, getD-at, set-at, length-take-le}
 use Rattle.slips.specs.declared.bundle.Place.{Place}
-use Rattle.slips.specs.declared.merge.Head.{Head}
-use Rattle.slips.specs.declared.merge.Head.the-variants.{Miss, Hit, Stray}
+use Rattle.slips.specs.declared.merge.Compared.{Compared}
+use Rattle.slips.specs.declared.merge.Compared.the-variants.{Miss, Hit, Stray}
 use Rattle.slips.specs.Cut.{slipLimit}
 use Rattle.slips.specs.Inner.Places.{Placed, AllPlaced, nowhere}
 use Rattle.slips.specs.Inner.Merge.{past, movePlace, movedOf, hitOf, hitsOf, lower, lowOf}
@@ -19,7 +19,7 @@ placed-at b [] h i l = absurd (omega arith)
 placed-at b (p ∷ ps) h zero l = h .0
 placed-at b (p ∷ ps) h (suc i) l = placed-at b ps (h .1) i (omega arith)
 
-module _ (h : Place → Head) where
+module _ (h : Place → Compared) where
   abbrev movedBy : List Place → List Place
   movedBy ps = movedOf movePlace h ps
 
@@ -31,7 +31,7 @@ module _ (h : Place → Head) where
   hits-snoc [] p = omega arith
   hits-snoc (x ∷ xs) p = omega (arith, hits-snoc xs p)
 
-  lower-swap : (a b : Head) (t : ℕ) → lower a (lower b t) ≡ lower b (lower a t)
+  lower-swap : (a b : Compared) (t : ℕ) → lower a (lower b t) ≡ lower b (lower a t)
   lower-swap Miss b t = refl
   lower-swap Hit b t = refl
   lower-swap (Stray s) Miss t = refl

@@ -1,5 +1,6 @@
--- Nothing is counted twice: of each type, the slips of an accepted bundle have as many entries as the log has objects. Counting the
--- entries of a type is counting its objects, each as often as it stands on the slips, and each stands there once. Assumes nothing.
+-- Nothing is counted twice: of each type, the slips of an accepted bundle have as many entries as the log has objects.
+-- Counting the entries of a type is counting its objects, each as often as it stands on the slips, and each stands
+-- there once. Assumes nothing.
 use mathlib.Core.Path.{_≡_, refl, sym, ap, _∙_}
 use mathlib.Core.Bool.{Bool, true, false, cond}
 use mathlib.Core.List.{List, [], _∷_}
@@ -10,7 +11,8 @@ use lib.ListN.{length}
 use lib.Dec.{eqb}
 use Rattle.fields.specs.Numbers.{Bytes}
 use Rattle.objects.specs.Logs.{LogOf}
-use Rattle.objects.specs.Named.{Entry, In, Rising, entriesOf}
+use Rattle.objects.specs.Named.{Entry, In, entriesOf}
+use Rattle.objects.specs.Rising.{Rising}
 use Rattle.objects.proofs.Naming.{entries-rise, within, one-log}
 use Rattle.slips.specs.declared.pass.Verdict.the-variants.{Accepted}
 use Rattle.slips.specs.Cut.{Slip, Slips}

@@ -1,22 +1,20 @@
 -- Any sharing-out of a log's objects among at most eight rising desks makes a bundle that is accepted. Assumes nothing.
-use mathlib.Core.Path.{_≡_, refl, ap, _∙_}
+use mathlib.Core.Path.{refl, _∙_}
 use mathlib.Core.List.{List, [], _∷_, _++_}
 use mathlib.Core.Logic.{inl, inr}
-use Prim.Native.Nat.{ℕ, suc, _+_, _≤_}
+use Prim.Native.Nat.{ℕ, _+_, _≤_}
 use native.Mathlib.Omega.{arith}
 use lib.ListN.{length}
 use Rattle.fields.specs.Numbers.{Bytes}
 use Rattle.fields.specs.Digits.{be}
-use Rattle.headers.specs.Format.{padded}
 use Rattle.objects.specs.Logs.{LogOf}
-use Rattle.objects.specs.Named.{Entry, In, Rising, entriesOf}
-use Rattle.objects.proofs.Naming.{entries-rise, entries-fit, room}
-use Rattle.slips.specs.declared.pass.Verdict.the-variants.{Accepted}
+use Rattle.objects.specs.Named.{Entry, In, entriesOf}
+use Rattle.objects.specs.Rising.{Rising}
+use Rattle.objects.proofs.Naming.{entries-many, entries-rise, entries-fit, room}
 use Rattle.slips.specs.Cut.{Slip}
 use Rattle.slips.specs.Bundle.{entryBytes, entriesBytes, slipLength, slipBytes, bundleBytes, Fits, AllFit, AllByRule}
-use Rattle.slips.specs.Check.{longest, checkOf}
-use Rattle.slips.specs.Claims.{Honest}
-use Rattle.slips.specs.Share.{share, Sharing}
+use Rattle.slips.specs.Claims.{longest, Honest}
+use Rattle.slips.specs.Share.{share, Sharing, Passes}
 use Rattle.fields.proofs.BigEndian.{bytes-cons, bytes-append, bytes-be}
 use Rattle.slips.proofs.Theorems.Verdicts.{check-exact}
 use Rattle.slips.proofs.Theorems.Sharing.{desks-once, share-times, share-on, share-rule, share-length}
@@ -44,15 +42,6 @@ all-fit : (es : List Entry) → ((e : Entry) → In e es → Fits e) → AllFit 
 all-fit [] f = tt
 all-fit (e ∷ es) f = (f e (inl refl), all-fit es (λ x i. f x (inr i)))
 
-entries-length : (at : ℕ) (is : List (List ℕ)) → length (entriesOf at is) ≡ length is
-entries-length at [] = refl
-entries-length at (i ∷ is) = ap suc (entries-length (at + length (padded i)) is)
-
--- the bundle is bytes, and accepted with as many objects as the log has
-pub record Passes (s : List ℕ) (is : List (List ℕ)) (b : List ℕ) : Type 0 where
-  pub bytes : Bytes b
-  pub accepted : checkOf s b ≡ Accepted (length is)
-
 pub honest-passes : (s : List ℕ) (is : List (List ℕ)) → Bytes s → length s ≤ longest → LogOf s is
     → (who : Entry → ℕ) (ds : List ℕ) → Sharing who ds (entriesOf 0 is) → Passes s is (bundleBytes (share who ds (entriesOf 0 is)))
 honest-passes s is bs short log who ds w =
@@ -60,7 +49,7 @@ honest-passes s is bs short log who ds w =
     let ss : List Slip = share who ds os in
     let up : Rising os = entries-rise log in
     let fit : AllFit os = all-fit os (λ e i. let f = entries-fit bs log short e i in record { start = f .0; size = f .1; kind = f .2 }) in
-    let rule : AllByRule 0 ss = share-rule who os up fit (omega (arith, room log, entries-length 0 is)) 0 ds (w .desks) in
+    let rule : AllByRule 0 ss = share-rule who os up fit (omega (arith, room log, entries-many 0 is)) 0 ds (w .desks) in
     let bytes : Bytes (bundleBytes ss) = bytes-bundle 0 ss rule in
     let honest : Honest s (bundleBytes ss) (length is) =
     record {

@@ -1,4 +1,5 @@
--- The slips of a sharing-out: they are by the rule, and each object stands on its desk's slip, once, and on no other. Assumes nothing.
+-- The slips of a sharing-out: they are by the rule, and each object stands on its desk's slip, once, and on no other.
+-- Assumes nothing.
 use mathlib.Core.Path.{_≡_, refl, ap, _∙_}
 use mathlib.Core.Bool.{Bool, true, false, cond}
 use mathlib.Core.List.{List, [], _∷_}
@@ -8,7 +9,8 @@ use native.Mathlib.Omega.{arith}
 use borrow.Author.Tests.{eq-eqb, ne-eqb}
 use lib.ListN.{length}
 use lib.Dec.{eqb}
-use Rattle.objects.specs.Named.{Entry, In, Above, Rising}
+use Rattle.objects.specs.Named.{Entry, In}
+use Rattle.objects.specs.Rising.{Above, Rising}
 use Rattle.slips.specs.Bundle.{AllFit, AllByRule}
 use Rattle.slips.specs.Right.{entriesOn, On, same, times, timesAll}
 use Rattle.slips.specs.Share.{picks, share, Among, Desks}

@@ -1,4 +1,5 @@
--- Who has answered in a check: the log's length, the bundle, the log's walk, or the slips beside the log. Assumes nothing.
+-- Who has answered in a check: the log's length, the bundle, the log's walk, or the slips beside the log. Assumes
+-- nothing.
 use mathlib.Core.Path.{_≡_, refl, sym, _∙_}
 use mathlib.Core.Bool.{Bool, true, false}
 use mathlib.Core.List.{List}
@@ -11,17 +12,16 @@ use Rattle.objects.specs.declared.Walked.{Walked}
 use Rattle.objects.specs.declared.Walked.the-variants as walked
 use Rattle.objects.specs.Walk.{walkOf}
 use Rattle.objects.specs.Named.{entriesOf}
-use Rattle.objects.proofs.Naming.{walk-exact}
+use Rattle.objects.proofs.Naming.{walk-exact, log-objects}
 use Rattle.slips.specs.declared.pass.Verdict.{Verdict}
 use Rattle.slips.specs.declared.pass.Verdict.the-variants.{Refused}
 use Rattle.slips.specs.Cut.{Slip, Cut, Slips, Fault, cutOf}
 use Rattle.slips.specs.Bundle.{BundleOf}
 use Rattle.slips.specs.Right.{entriesOn}
 use Rattle.slips.specs.Soonest.{troubleOf}
-use Rattle.slips.specs.Check.{longest, answerOf, checkOf}
-use Rattle.slips.specs.Claims.{Formed, LogRefused}
+use Rattle.slips.specs.Check.{answerOf, checkOf}
+use Rattle.slips.specs.Claims.{longest, Formed, LogRefused}
 use Rattle.slips.proofs.Format.Cuts.{bundle-exact}
-use Rattle.slips.proofs.Theorems.LogEntries.{log-entries}
 
 -- who has answered
 pub data Told (s b : List ℕ) : Type 0 where
@@ -45,7 +45,7 @@ module _ (s b : List ℕ) (bs : Bytes s) (bb : Bytes b) where
         le-ltb longest (length s) (f .short),
         bundle-exact b (f .slips) bb .1 (f .bundle),
         walk-exact s (length (f .objects)) .1 (f .objects, f .log, refl),
-        log-entries bs (f .log),
+        log-objects (f .log),
       )
 
   pub check-log : (k p : ℕ) (w : LogRefused s b k p) → checkOf s b ≡ Refused k p

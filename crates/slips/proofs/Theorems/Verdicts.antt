@@ -1,5 +1,5 @@
--- What the check's answers say, each as an `↔`: accepted, and refused by 25 to 27, by the log's numbers, by 24 and 20 to 23, and
--- by 28. The numbers tell which test has answered. Assumes nothing.
+-- What the check's answers say, each as an `↔`: accepted, and refused by 25 to 27, by the log's numbers, by 24 and 20
+-- to 23, and by 28. The numbers tell which test has answered. Assumes nothing.
 use mathlib.Core.Path.{_≡_, refl, sym, subst, _∙_}
 use mathlib.Core.List.{List}
 use mathlib.Core.Logic.{_↔_, ⊎-elim}
@@ -15,8 +15,8 @@ use Rattle.slips.specs.Cut.{Fault, cutOf}
 use Rattle.slips.specs.Right.{entriesOn}
 use Rattle.slips.specs.Trouble.{InTrouble, Trouble, None, Found, First}
 use Rattle.slips.specs.Soonest.{troubleOf}
-use Rattle.slips.specs.Check.{longest, answerOf, checkOf}
-use Rattle.slips.specs.Claims.{Formed, LogRefused, Honest, Troubled}
+use Rattle.slips.specs.Check.{answerOf, checkOf}
+use Rattle.slips.specs.Claims.{longest, Formed, LogRefused, Honest, Troubled}
 use Rattle.slips.proofs.Format.Cuts.{fault-number}
 use Rattle.slips.proofs.Trouble.Least.{one-least}
 use Rattle.slips.proofs.Trouble.Troubles.{trouble-first, trouble-exact}

@@ -8,7 +8,8 @@ use native.Mathlib.Omega.{arith}
 use borrow.Author.Tests.{eq-eqb, ne-eqb, eqb-true}
 use lib.Dec.{eqb}
 use Rattle.fields.proofs.Zeros.{both-true}
-use Rattle.objects.specs.Named.{Entry, In, Above}
+use Rattle.objects.specs.Named.{Entry, In}
+use Rattle.objects.specs.Rising.{Above}
 use Rattle.slips.specs.Right.{same, times}
 
 pub entry-same : {e x : Entry} → e .start ≡ x .start → e .size ≡ x .size → e .kind ≡ x .kind → e ≡ x

@@ -1,4 +1,5 @@
--- The smallest start, and there the smallest number: the sooner of two firsts is the first of both, and there is one. Assumes nothing.
+-- The smallest start, and there the smallest number: the sooner of two firsts is the first of both, and there is one.
+-- Assumes nothing.
 use mathlib.Core.Path.{_≡_, refl, sym, _∙_}
 use mathlib.Core.Bool.{Bool, true, false, cond, _&&_, _||_}
 use mathlib.Core.Logic.{_⊎_, inl, inr, ⊎-elim}

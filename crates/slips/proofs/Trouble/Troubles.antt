@@ -1,4 +1,5 @@
--- The first trouble: the function of specs/Trouble gives what its claim says, and where there is none all is right. Assumes nothing.
+-- The first trouble: the function of specs/Soonest gives what specs/Trouble claims, and where there is none all is
+-- right. Assumes nothing.
 use mathlib.Core.Path.{_≡_, refl, subst, _∙_}
 use mathlib.Core.Bool.{Bool, true, false, cond}
 use mathlib.Core.List.{List, [], _∷_}

@@ -7,18 +7,19 @@
 //!
 //! A case: the question (1 byte), the lengths of log and bundle (u32), the position or the room (u64), the log, the
 //! bundle. The questions: 1 the step at the position; 2 the walk; 3 the check of the bundle; 4 the log written again to
-//! the room; 5 the record at the position, of the type that stands in place of the bundle (u32); 6 the bytes in place of
-//! the log written to the room as the object that they are; 7 the same bytes offered as a foreign object.
+//! the room; 5 the record at the position, of the type that stands in place of the bundle (u32); 6 the bytes in place
+//! of the log written to the room as the object that they are; 7 the same bytes offered as a foreign object.
 //!
 //! A reply: a word and four numbers, each a u64. The words: 1 an object (start, size, type, next position); 2 done; 3
 //! refused (number, place); 4 a count; 5 the bytes used; 6 a record (where its numbers end, the length of its frame); 7
-//! an object of another type. To 1 and 5 the last number is the next position. Behind the reply, to 4, 6 and 7: the bytes
-//! of the room; to 5, for a record: each of its fields as a u64, counted from byte 40, then the bytes of its frame. All
-//! little-endian. Both sides write to one page that is never cleared, so that a byte that a call may not change shows.
+//! an object of another type. To 1 and 5 the last number is the next position. Behind the reply, to 4, 6 and 7: the
+//! bytes of the room; to 5, for a record: each of its fields as a u64, counted from byte 40, then the bytes of its
+//! frame. All little-endian. Both sides write to one page that is never cleared, so that a byte that a call may not
+//! change shows.
 //!
 //! The judge also fails where one of the refusals 1 to 11 and 20 to 27 never came, or where one of the eleven types was
-//! never read or never written: then COUNT is too small or the cases are. Refusal 28 asks for a log above 4 GiB and stays
-//! out.
+//! never read or never written: then COUNT is too small or the cases are. Refusal 28 asks for a log above 4 GiB and
+//! stays out.
 mod cases;
 mod numbers;
 mod replies;

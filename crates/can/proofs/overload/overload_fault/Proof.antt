@@ -2,7 +2,7 @@
 use mathlib.Core.Path.{ap, ap₂, _∙_}
 use mathlib.Core.Bool.{Bool}
 use borrow.Author.Needs.{needs}
-use Rattle.headers.specs.Tests.{first}
+use Rattle.headers.specs.HeadTests.{first}
 use Rattle.can.specs.Overload.{overloadFault}
 use Rattle.can.proofs.overload.overload_fault.Statement.{statement}
 use Rattle.can.proofs.overload.overload_fault.Tie as tie

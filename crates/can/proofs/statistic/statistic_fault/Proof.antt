@@ -2,7 +2,7 @@
 use mathlib.Core.Path.{ap, _∙_}
 use mathlib.Core.Bool.{Bool}
 use borrow.Author.Needs.{needs}
-use Rattle.headers.specs.Tests.{first}
+use Rattle.headers.specs.HeadTests.{first}
 use Rattle.can.specs.Statistic.{statisticFault}
 use Rattle.can.proofs.statistic.statistic_fault.Statement.{statement}
 use Rattle.can.proofs.statistic.statistic_fault.Tie as tie

@@ -1,18 +1,17 @@
 -- `can_records::message_in` meets its contract: the object's record, or the record of zeros. Assumes nothing.
 use borrow.Author.Needs.{needs}
-use Rattle.headers.specs.Types.{typeList, sizesIn}
-use Rattle.objects.specs.Kinds.{message}
+use Rattle.headers.specs.Types.{canMessage, typeList, sizesIn}
 use Rattle.outcomes.proofs.Reading.{in-long, in-short}
 use Rattle.can_records.proofs.message.message_in.Statement.{statement}
 use Rattle.can_records.proofs.message.message_in.Tie as tie
 
 returns : tie.Need-returns
 unfolding typeList sizesIn
-returns c = in-short message _ (c .before .before .if1 .taken) (c .message-of .ensures)
+returns c = in-short canMessage _ (c .before .before .if1 .taken) (c .get-message .ensures)
 
 returns-2 : tie.Need-returns-2
 unfolding typeList sizesIn
-returns-2 c = in-long message _ (c .before .if1 .left) (c .message-of2 .ensures)
+returns-2 c = in-long canMessage _ (c .before .if1 .left) (c .get-message2 .ensures)
 
 pub message-in-spec : {M : Type 1} → statement M
 message-in-spec = tie.close (tie.spec (λ c. search needs) (λ c κs. search needs) returns (λ c κs. search needs) returns-2)

@@ -1,6 +1,6 @@
 -- `can_records::read_overload` meets its contract: the record of what a look cut out of the log. Assumes nothing.
 use borrow.Author.Needs.{needs}
-use Rattle.objects.specs.Kinds.{overload}
+use Rattle.headers.specs.Types.{overload}
 use Rattle.outcomes.proofs.Looks.{look-within}
 use Rattle.outcomes.proofs.Reading.{reads}
 use Rattle.can_records.proofs.overload.read_overload.Statement.{statement}

@@ -1,6 +1,6 @@
 -- `can_records::read_statistic` meets its contract: the record of what a look cut out of the log. Assumes nothing.
 use borrow.Author.Needs.{needs}
-use Rattle.objects.specs.Kinds.{statistic}
+use Rattle.headers.specs.Types.{statistic}
 use Rattle.outcomes.proofs.Looks.{look-within}
 use Rattle.outcomes.proofs.Reading.{reads}
 use Rattle.can_records.proofs.statistic.read_statistic.Statement.{statement}

@@ -7,10 +7,10 @@ use Rattle.cases.proofs.replies.answer.Statement.{statement}
 use Rattle.cases.proofs.replies.answer.Tie as tie
 
 returns : tie.Need-returns
-returns c = c .told .ensures ∙ short-case _ (c .before .if1 .taken)
+returns c = c .numbers .ensures ∙ short-case _ (c .before .if1 .taken)
 
 returns-2 : tie.Need-returns-2
-returns-2 c = c .told2 .ensures ∙ odd-case _ (omega arith) (c .before .before .before .get32 .ensures) (c .before .before .get322 .ensures) (c .before .if2 .taken)
+returns-2 c = c .numbers2 .ensures ∙ odd-case _ (omega arith) (c .before .before .before .get32 .ensures) (c .before .before .get322 .ensures) (c .before .if2 .taken)
 
 returns-3 : tie.Need-returns-3
 returns-3 c = whole-case _ (omega arith) (c .before .before .before .get8 .ensures) (c .before .before .before .before .get64 .ensures) (c .before .before .before .before .before .before .before .get32 .ensures) (c .before .before .before .before .before .before .get322 .ensures) (c .before .before .before .before .before .if2 .left) (c .reply-to .ensures)

@@ -1,7 +1,7 @@
--- `ethernet_records::frame::read_as` meets its contract: the record of what a look cut out of the log; of the two types it is the same. Assumes nothing.
+-- `ethernet_records::frame::read_as` meets its contract: the record of what a look cut out of the log; of the two types
+-- it is the same. Assumes nothing.
 use borrow.Author.Needs.{needs}
-use Rattle.headers.specs.Types.{typeList, sizesIn}
-use Rattle.objects.specs.Kinds.{frame, forwardedFrame}
+use Rattle.headers.specs.Types.{frame, forwardedFrame, typeList, sizesIn}
 use Rattle.outcomes.specs.Reads.{recordIn}
 use Rattle.outcomes.proofs.Looks.{look-within}
 use Rattle.outcomes.proofs.Reading.{reads-as}

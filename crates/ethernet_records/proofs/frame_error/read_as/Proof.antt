@@ -1,7 +1,7 @@
--- `ethernet_records::frame_error::read_as` meets its contract: the record of what a look cut out of the log; of the two types it is the same. Assumes nothing.
+-- `ethernet_records::frame_error::read_as` meets its contract: the record of what a look cut out of the log; of the two
+-- types it is the same. Assumes nothing.
 use borrow.Author.Needs.{needs}
-use Rattle.headers.specs.Types.{typeList, sizesIn}
-use Rattle.objects.specs.Kinds.{error, forwardedError}
+use Rattle.headers.specs.Types.{ethernetError, forwardedError, typeList, sizesIn}
 use Rattle.outcomes.specs.Reads.{recordIn}
 use Rattle.outcomes.proofs.Looks.{look-within}
 use Rattle.outcomes.proofs.Reading.{reads-as}
@@ -16,7 +16,7 @@ unfolding recordIn typeList sizesIn
 returns c =
     let l = c .before .before .before .look .ensures in
     let o = c .before .before .cut .ensures in
-    (reads-as error (λ f. f .value) _ _ l o (c .before .error-in .ensures), reads-as forwardedError (λ f. f .value) _ _ l o (c .before .error-in .ensures))
+    (reads-as ethernetError (λ f. f .value) _ _ l o (c .before .error-in .ensures), reads-as forwardedError (λ f. f .value) _ _ l o (c .before .error-in .ensures))
 
 pub read-as-spec : {M : Type 1} → statement M
 read-as-spec = tie.close (tie.spec (λ c κs. search needs) cut-requires (λ c κs. search needs) returns)

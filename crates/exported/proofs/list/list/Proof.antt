@@ -1,5 +1,5 @@
--- `exported::list` meets its contract: before each turn the list from the cursor on, with n objects listed, is the whole list (`Entering`), and
--- each way out is one law of it. Assumes nothing.
+-- `exported::list` meets its contract: before each turn the list from the cursor on, with n objects listed, is the
+-- whole list (`Entering`), and each way out is one law of it. Assumes nothing.
 use mathlib.Core.Path.{sym, ap, _∙_}
 use Prim.Native.Nat.{_-_}
 use native.Mathlib.Omega.{arith}

@@ -3,16 +3,17 @@ use mathlib.Core.Path.{_≡_, sym, ap, _∙_}
 use mathlib.Core.List.{List}
 use Prim.Native.Nat.{ℕ}
 use borrow.Author.Needs.{needs}
-use Rattle.outcomes.specs.declared.Told.{Told}
+use Rattle.outcomes.specs.declared.ReadAnswer.{ReadAnswer}
 use Rattle.outcomes.specs.declared.Looked.{Looked}
+use Rattle.outcomes.specs.Replies.{readReply}
 use Rattle.exported.specs.Replies.{Reply, lent}
-use Rattle.exported.specs.Records.{toldReply, lookReply}
+use Rattle.exported.specs.Records.{recordReply, lookReply}
 use Rattle.exported.proofs.record.tell_look.Statement.{statement}
 use Rattle.exported.proofs.record.tell_look.Tie as tie
 
 -- what is told of the case that is known is told of the look
-of-look : {r : Reply} (l : Looked) {t : Told} (xs : List ℕ) → l .told ≡ t → r ≡ lent (toldReply t (l .size) (l .next .at)) xs → r ≡ lent (lookReply l) xs
-of-look l xs e told = told ∙ ap (λ (x : Told). lent (toldReply x (l .size) (l .next .at)) xs) (sym e)
+of-look : {r : Reply} (l : Looked) {t : ReadAnswer} (xs : List ℕ) → l .told ≡ t → r ≡ lent (recordReply (readReply t) (l .size) (l .next .at)) xs → r ≡ lent (lookReply l) xs
+of-look l xs e told = told ∙ ap (λ (x : ReadAnswer). lent (recordReply (readReply x) (l .size) (l .next .at)) xs) (sym e)
 
 returns : tie.Need-returns
 returns c = of-look (c .before .before .before .before .before .before .before .before .args .l) _ (c .before .before .before .before .enum-told .given .1) (c .before .before .tell-two .ensures)

@@ -2,7 +2,7 @@
 use mathlib.Core.Path.{_≡_, refl, ap₂, _∙_}
 use borrow.Author.Needs.{needs}
 use Rattle.fields.specs.Numbers.{num}
-use Rattle.headers.specs.Tests.{first}
+use Rattle.headers.specs.HeadTests.{first}
 use Rattle.flexray.specs.Fields.{countsOk}
 use Rattle.flexray.specs.Receive.{receiveFault}
 use Rattle.flexray.proofs.receive.receive_fault.Statement.{statement}

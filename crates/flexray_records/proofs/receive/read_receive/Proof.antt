@@ -1,6 +1,6 @@
 -- `flexray_records::read_receive` meets its contract: the record of what a look cut out of the log. Assumes nothing.
 use borrow.Author.Needs.{needs}
-use Rattle.objects.specs.Kinds.{receive}
+use Rattle.headers.specs.Types.{receive}
 use Rattle.outcomes.proofs.Looks.{look-within}
 use Rattle.outcomes.proofs.Reading.{reads}
 use Rattle.flexray_records.proofs.receive.read_receive.Statement.{statement}

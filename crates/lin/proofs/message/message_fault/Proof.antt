@@ -1,7 +1,7 @@
 -- `lin::message_fault` meets its contract: test by test, as the definition has them. Assumes nothing.
 use mathlib.Core.Path.{refl, ap, ap₂, _∙_}
 use borrow.Author.Needs.{needs}
-use Rattle.headers.specs.Tests.{first}
+use Rattle.headers.specs.HeadTests.{first}
 use Rattle.lin.specs.Fields.{tailOk}
 use Rattle.lin.specs.Message.{messageFault}
 use Rattle.lin.proofs.message.message_fault.Statement.{statement}

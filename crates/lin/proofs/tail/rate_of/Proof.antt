@@ -1,4 +1,5 @@
--- `lin::rate_of` meets its contract: without its sign a NaN's pattern is above infinity's, and zero by zero is a NaN. Assumes nothing.
+-- `lin::rate_of` meets its contract: without its sign a NaN's pattern is above infinity's, and zero by zero is a NaN.
+-- Assumes nothing.
 use borrow.Author.Needs.{needs}
 use Rattle.lin.proofs.RateLaws.{nan-bits, number-bits}
 use Rattle.lin.proofs.tail.rate_of.Statement.{statement}

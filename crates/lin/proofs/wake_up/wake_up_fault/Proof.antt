@@ -1,7 +1,7 @@
 -- `lin::wake_up_fault` meets its contract: test by test, as the definition has them. Assumes nothing.
 use mathlib.Core.Path.{refl, ap₂, _∙_}
 use borrow.Author.Needs.{needs}
-use Rattle.headers.specs.Tests.{first}
+use Rattle.headers.specs.HeadTests.{first}
 use Rattle.lin.specs.WakeUp.{wakeUpFault}
 use Rattle.lin.proofs.wake_up.wake_up_fault.Statement.{statement}
 use Rattle.lin.proofs.wake_up.wake_up_fault.Tie as tie

@@ -1,6 +1,6 @@
 -- `lin_records::read_message` meets its contract: the record of what a look cut out of the log. Assumes nothing.
 use borrow.Author.Needs.{needs}
-use Rattle.objects.specs.Kinds.{linMessage}
+use Rattle.headers.specs.Types.{linMessage}
 use Rattle.outcomes.proofs.Looks.{look-within}
 use Rattle.outcomes.proofs.Reading.{reads}
 use Rattle.lin_records.proofs.message.read_message.Statement.{statement}

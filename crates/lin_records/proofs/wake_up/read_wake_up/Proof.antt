@@ -1,6 +1,6 @@
 -- `lin_records::read_wake_up` meets its contract: the record of what a look cut out of the log. Assumes nothing.
 use borrow.Author.Needs.{needs}
-use Rattle.objects.specs.Kinds.{wakeUp}
+use Rattle.headers.specs.Types.{wakeUp}
 use Rattle.outcomes.proofs.Looks.{look-within}
 use Rattle.outcomes.proofs.Reading.{reads}
 use Rattle.lin_records.proofs.wake_up.read_wake_up.Statement.{statement}

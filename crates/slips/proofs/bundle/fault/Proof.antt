@@ -1,5 +1,5 @@
--- `slips::fault` meets its contract: the tests that led to a `return` say which of 20 to 23 holds; each way out is one law of
--- proofs/SlipFaults. Assumes nothing.
+-- `slips::fault` meets its contract: the tests that led to a `return` say which of 20 to 23 holds; each way out is one
+-- law of proofs/Format/SlipFaults. Assumes nothing.
 use mathlib.Core.Path.{_≡_, sym, _∙_}
 use mathlib.Core.Bool.{true}
 use native.Mathlib.Omega.{arith}

@@ -1,4 +1,5 @@
--- `slips::read` meets its contract: before each turn the slips behind stand at their places, and what is left decides (`Cutting`). Assumes nothing.
+-- `slips::read` meets its contract: before each turn the slips behind stand at their places, and what is left decides
+-- (`Cutting`). Assumes nothing.
 use mathlib.Core.Path.{_≡_, sym, _∙_}
 use Prim.Native.Nat.{_+_, _-_, _≤_}
 use native.Mathlib.Omega.{arith}

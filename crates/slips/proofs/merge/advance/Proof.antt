@@ -1,5 +1,5 @@
--- `slips::advance` meets its contract: before each turn the first i slips are moved and the others stand where they stood (`Turning`); each arm of the match
--- is one law of proofs/Turns. Assumes nothing.
+-- `slips::advance` meets its contract: before each turn the first i slips are moved and the others stand where they
+-- stood (`Turning`); each arm of the match is one law of proofs/Loops/Turns. Assumes nothing.
 use mathlib.Core.Path.{_≡_, sym, _∙_}
 use mathlib.Core.Logic.{⊎-elim}
 use Prim.Native.Nat.{_-_}
@@ -8,13 +8,13 @@ use borrow.Author.Needs.{needs}
 use lib.ListN.{length, getD}
 use Rattle.slips.specs.Cut.{slipLimit}
 use Rattle.slips.specs.Inner.Places.{Placed, nowhere}
-use Rattle.slips.specs.Inner.Merge.{headAt, mergedOf}
+use Rattle.slips.specs.Inner.Merge.{compareAt, mergedOf}
 use Rattle.slips.proofs.Loops.Turns.{placed-at, Turning, turning-none, turn-miss, turn-hit, turn-stray, turned-all, still}
 use Rattle.slips.proofs.merge.advance.Statement.{statement}
 use Rattle.slips.proofs.merge.advance.Tie as tie
 
 abbrev Inv-loop : tie.InvT-loop
-Inv-loop b start size kind out₀ hits₀ low₀ i₀ out hits low i = Turning (headAt b (record { start = start; size = size; kind = kind })) out₀ out hits low i
+Inv-loop b start size kind out₀ hits₀ low₀ i₀ out hits low i = Turning (compareAt b (record { start = start; size = size; kind = kind })) out₀ out hits low i
 
 abbrev μ-loop : tie.MeasureT-loop
 μ-loop b start size kind out₀ hits₀ low₀ i₀ out hits low i = slipLimit - i
@@ -35,8 +35,8 @@ module _ (c : tie.In-loop Inv-loop μ-loop) where
 loop-holds : tie.Need-loop-holds Inv-loop μ-loop
 loop-holds c = turning-none _ _
 
-look-requires : tie.Need-look-requires Inv-loop μ-loop
-look-requires c κs = standing (c .before)
+compare-requires : tie.Need-compare-requires Inv-loop μ-loop
+compare-requires c κs = standing (c .before)
 
 add-t20 : tie.Need-add-t20 Inv-loop μ-loop
 add-t20 c = let p = standing (c .before .before .before .before) in omega arith
@@ -45,7 +45,7 @@ loop-again : tie.Need-loop-again Inv-loop μ-loop
 loop-again c =
     let t = c .before .before .before in
     let s = t .before .before .before in
-    let e = sym (c .before .look .ensures) in
+    let e = sym (c .before .compare .ensures) in
     ⊎-elim
     (λ w. rw (w .2, w .3, w .4) (turn-miss _ _ _ _ _ _ (t .loop-test .taken) (eight s) (t .before .loop .inv) (e ∙ w .1 .given .1)))
     (⊎-elim
@@ -63,4 +63,4 @@ returns c =
 pub advance-spec : {M : Type 1} → statement M
 advance-spec =
     tie.close
-    (tie.spec Inv-loop μ-loop loop-holds (λ c. search needs) (λ c. search needs) look-requires (λ c. search needs) (λ c. search needs) (λ c. search needs) add-t20 (λ c. search needs) (λ c. search needs) (λ c. search needs) (λ c κs. search needs) (λ c. search needs) (λ c. search needs) loop-again returns)
+    (tie.spec Inv-loop μ-loop loop-holds (λ c. search needs) (λ c. search needs) compare-requires (λ c. search needs) (λ c. search needs) (λ c. search needs) add-t20 (λ c. search needs) (λ c. search needs) (λ c. search needs) (λ c κs. search needs) (λ c. search needs) (λ c. search needs) loop-again returns)

@@ -1,0 +1,25 @@
+-- 01, "Marked examples", proved together: one computed test of the whole table. Assumes nothing.
+use mathlib.Core.Path.{_≡_, refl}
+use Rattle.fields.specs.Numbers.{num, val, big, allZero}
+use Rattle.fields.specs.Digits.{le}
+use Rattle.headers.specs.Format.{headerOf, padding, unitOk}
+use Rattle.headers.specs.Types.{typeList, sizesIn}
+use Rattle.headers.specs.Rows.{rowIn, allowed}
+use Rattle.headers.specs.HeadTests.{first, headerFits}
+use Rattle.can.specs.Fields.{overloadOf}
+use Rattle.objects.specs.Kinds.{find}
+use Rattle.objects.specs.Next.{faultOf, answered, nextAt}
+use Rattle.objects.specs.Stepping.{metAt}
+use Rattle.objects.specs.Walk.{walkOf}
+use Rattle.outcomes.specs.Reads.{lookAt, recordIn, recordAt}
+use Rattle.slips.specs.Cut as cut
+use Rattle.slips.specs.Cut.{shapeOk, cutOf}
+use Rattle.slips.specs.Soonest.{troubleOf}
+use Rattle.slips.specs.Check.{checkOf}
+use Rattle.marked_examples.specs.Hex.{hex}
+use Rattle.marked_examples.specs.Questions.{reply}
+use Rattle.marked_examples.specs.Marked.{m2, m3, m9, m11, marked, replies, toldIn}
+
+pub marked-examples : replies marked ≡ toldIn marked
+unfolding marked m2 m3 m9 m11 hex reply walkOf metAt nextAt answered faultOf find headerOf unitOk typeList sizesIn rowIn allowed headerFits first padding num val le allZero lookAt recordIn recordAt overloadOf checkOf cutOf cut.faultOf shapeOk big troubleOf
+marked-examples = refl

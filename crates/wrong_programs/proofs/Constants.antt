@@ -1,0 +1,103 @@
+-- A reader with one constant record, of any type and whatever the record, and a walk with one constant count: each is
+-- wrong on one of two logs. A writer that leaves a buffer of zeros as it was is wrong on every record that is not
+-- refused. Assumes nothing.
+use Prim.Native.Nat.{ℕ, zero, suc}
+use mathlib.Core.Path.{_≡_, refl, ap, _∙_}
+use mathlib.Core.List.{List, []}
+use native.Mathlib.Omega.{arith}
+use lib.ListN.{length, getD, length-replicate}
+use Rattle.fields.specs.Numbers.{val, num, nums, allZero, zeros}
+use Rattle.fields.specs.Digits.{le}
+use Rattle.headers.specs.Format.{padding, headerOf, unitOk}
+use Rattle.headers.specs.Types.{Kind, canMessage, overload, statistic, receive, linMessage, wakeUp, ethernetStatus, frame, forwardedFrame, ethernetError, forwardedError, typeList, sizesIn}
+use Rattle.headers.specs.Rows.{rowIn, allowed}
+use Rattle.headers.specs.Header as header
+use Rattle.headers.specs.HeadTests.{first, headerFits}
+use Rattle.can.specs.Fields as can
+use Rattle.flexray.specs.Fields as flexray
+use Rattle.lin.specs.Fields as lin
+use Rattle.ethernet.specs.Fields as ethernet
+use Rattle.objects.specs.declared.Walked.the-variants as walked
+use Rattle.objects.specs.Kinds.{Record, layoutOf, find}
+use Rattle.objects.specs.Items.{known, bytesOf, padded}
+use Rattle.objects.specs.Next.{faultOf, answered, nextAt}
+use Rattle.objects.specs.Stepping.{metAt}
+use Rattle.objects.specs.Walk.{walkOf}
+use Rattle.outcomes.specs.Reads.{lookAt, recordIn, recordAt}
+use Rattle.outcomes.specs.Writes.{refusalOf, bufferOf}
+use Rattle.marked_examples.specs.Hex.{hex}
+use Rattle.marked_examples.specs.Marked.{m2}
+use Rattle.wrong_programs.specs.Samples.{byClient}
+use Rattle.wrong_programs.specs.Readers.{counts}
+use Rattle.wrong_programs.specs.Records.{constant, writesNothing}
+use Rattle.wrong_programs.specs.Wrong.{walk, read, write, Meets}
+
+abbrev clientAt : (k : Kind) → Record k → ℕ
+clientAt k r = layoutOf k .header r .client
+
+client-0 : (k : Kind) → clientAt k (recordAt k (byClient k 0) 0) ≡ 0
+unfolding byClient hex nextAt answered faultOf find headerOf unitOk typeList sizesIn rowIn allowed headerFits first padding num val nums le allZero lookAt recordIn recordAt header.object header.header header.head can.messageOf can.overloadOf can.statisticOf flexray.receiveOf flexray.countsOk lin.tailOf lin.messageOf lin.wakeUpOf ethernet.statusOf ethernet.frameOf ethernet.errorOf
+client-0 canMessage = refl
+client-0 overload = refl
+client-0 statistic = refl
+client-0 receive = refl
+client-0 linMessage = refl
+client-0 wakeUp = refl
+client-0 ethernetStatus = refl
+client-0 frame = refl
+client-0 forwardedFrame = refl
+client-0 ethernetError = refl
+client-0 forwardedError = refl
+
+client-1 : (k : Kind) → clientAt k (recordAt k (byClient k 1) 0) ≡ 1
+unfolding byClient hex nextAt answered faultOf find headerOf unitOk typeList sizesIn rowIn allowed headerFits first padding num val nums le allZero lookAt recordIn recordAt header.object header.header header.head can.messageOf can.overloadOf can.statisticOf flexray.receiveOf flexray.countsOk lin.tailOf lin.messageOf lin.wakeUpOf ethernet.statusOf ethernet.frameOf ethernet.errorOf
+client-1 canMessage = refl
+client-1 overload = refl
+client-1 statistic = refl
+client-1 receive = refl
+client-1 linMessage = refl
+client-1 wakeUp = refl
+client-1 ethernetStatus = refl
+client-1 frame = refl
+client-1 forwardedFrame = refl
+client-1 ethernetError = refl
+client-1 forwardedError = refl
+
+pub no-constant-record : (k : Kind) (r : Record k) → Meets (read k (clientAt k) (constant k r) (byClient k 0) 0) → Meets (read k (clientAt k) (constant k r) (byClient k 1) 0) → ⊥
+no-constant-record k r a b =
+    let e : clientAt k r ≡ 0 = ap (clientAt k) (a .value) ∙ client-0 k in
+    let f : clientAt k r ≡ 1 = ap (clientAt k) (b .value) ∙ client-1 k in
+    omega arith
+
+count-0 : walkOf [] ≡ walked.Count 0
+unfolding walkOf metAt nextAt
+count-0 = refl
+
+count-1 : walkOf m2 ≡ walked.Count 1
+unfolding m2 hex walkOf metAt nextAt answered faultOf find headerOf unitOk typeList sizesIn rowIn allowed headerFits first padding num val le allZero
+count-1 = refl
+
+pub no-constant-count : (n : ℕ) → Meets (walk (counts n) []) → Meets (walk (counts n) m2) → ⊥
+no-constant-count n a b =
+    let e = count-0 in
+    let f = count-1 in
+    let z : _≡_ {A = ℕ} 0 1 = cc in
+    omega arith
+
+first-zero : (n : ℕ) → getD (zeros n) 0 0 ≡ 0
+first-zero zero = refl
+first-zero (suc n) = refl
+
+first-byte : (k : Kind) (r : Record k) (out : List ℕ) → getD (bufferOf 0 (padded (known k r)) out) 0 0 ≡ 76
+unfolding bytesOf header.object header.header header.head
+first-byte k r out = refl
+
+pub something-written : (k : Kind) (r : Record k) (n : ℕ) → refusalOf (known k r) n ≡ 0 → Meets (write writesNothing (known k r) (zeros n)) → ⊥
+something-written k r n e m =
+    let l = length-replicate {A = ℕ} n 0 in
+    let f : refusalOf (known k r) (length (zeros n)) ≡ 0 = rw l e in
+    let g = first-byte k r (zeros n) in
+    let h = first-zero n in
+    let b : zeros n ≡ bufferOf 0 (padded (known k r)) (zeros n) = rw f at (m .buffer) in
+    let z : _≡_ {A = ℕ} 0 76 = cc in
+    omega arith

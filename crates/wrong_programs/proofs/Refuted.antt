@@ -1,0 +1,121 @@
+-- The wrong programs are refuted: on each row a computed test finds two answers that differ, and a program that met its
+-- contract would pass it. Assumes nothing.
+use Prim.Native.Nat.{ℕ}
+use mathlib.Core.Path.{_≡_, refl, ap}
+use mathlib.Core.Bool.{Bool, true, false, not, _&&_}
+use mathlib.Core.List.{List, [], _∷_}
+use native.Mathlib.Omega.{arith}
+use borrow.Author.Tests.{eq-eqb, not-true}
+use lib.ListN.{length}
+use lib.Dec.{eqb}
+use Rattle.fields.specs.Numbers.{val, num, big, nums, allZero}
+use Rattle.fields.specs.Digits.{le}
+use Rattle.fields.proofs.Zeros.{both-true}
+use Rattle.headers.specs.Format.{padding, headerOf, unitOk}
+use Rattle.headers.specs.Types.{typeList, sizesIn}
+use Rattle.headers.specs.Rows.{rowIn, allowed}
+use Rattle.headers.specs.Header as header
+use Rattle.headers.specs.HeadTests.{first, headerFits}
+use Rattle.can.specs.Fields.{overloadOf}
+use Rattle.can.specs.Overload as overload
+use Rattle.lin.specs.Fields.{tailOf, messageOf}
+use Rattle.objects.specs.declared.Step.{Step}
+use Rattle.objects.specs.declared.Answer.{Answer}
+use Rattle.objects.specs.declared.Answer.the-variants as answer
+use Rattle.objects.specs.declared.Walked.{Walked}
+use Rattle.objects.specs.declared.Walked.the-variants as walked
+use Rattle.objects.specs.Kinds.{find}
+use Rattle.objects.specs.Items.{bytesOf, padded}
+use Rattle.objects.specs.Next.{faultOf, answered, nextAt}
+use Rattle.objects.specs.Stepping.{metAt}
+use Rattle.objects.specs.Walk.{walkOf}
+use Rattle.outcomes.specs.declared.Written.the-variants as written
+use Rattle.outcomes.specs.Reads.{lookAt, recordIn, recordAt}
+use Rattle.outcomes.specs.Writes.{refusalOf, bufferOf}
+use Rattle.slips.specs.declared.pass.Verdict.{Verdict}
+use Rattle.slips.specs.declared.pass.Verdict.the-variants as verdict
+use Rattle.slips.specs.Cut as cut
+use Rattle.slips.specs.Cut.{shapeOk, cutOf}
+use Rattle.slips.specs.Soonest.{troubleOf}
+use Rattle.slips.specs.Check.{checkOf}
+use Rattle.marked_examples.specs.Hex.{hex}
+use Rattle.marked_examples.specs.Marked.{m2, m9, m11}
+use Rattle.wrong_programs.specs.Samples.{seventeen, unclean, wrapping, lin168, m12, otherSize, otherType, strayAndTwice, twenty}
+use Rattle.wrong_programs.specs.Wrong.{Trial, step, walk, read, write, check, Meets, Wrong, wrongs, AllRefuted}
+
+-- answers as numbers
+
+abbrev walkedAs : Walked → List ℕ
+walkedAs (walked.Count n) = 0 ∷ n ∷ []
+walkedAs (walked.Refused number place) = 1 ∷ number ∷ place ∷ []
+
+abbrev answerAs : Answer → List ℕ
+answerAs (answer.Object start size kind) = 0 ∷ start ∷ size ∷ kind ∷ []
+answerAs answer.Done = 1 ∷ []
+answerAs (answer.Refused number place) = 2 ∷ number ∷ place ∷ []
+
+abbrev stepAs : Step → List ℕ
+stepAs s = s .next .at ∷ answerAs (s .answer)
+
+abbrev verdictAs : Verdict → List ℕ
+verdictAs (verdict.Accepted n) = 0 ∷ n ∷ []
+verdictAs (verdict.Refused number place) = 1 ∷ number ∷ place ∷ []
+
+-- the program's answer, and what the contract asks for
+abbrev given : Trial → List ℕ
+given (step p log at) = stepAs (p log at)
+given (walk p log) = walkedAs (p log)
+given (read k apart p log at) = apart (p log at) ∷ []
+given (write p i out) = p i out .1
+given (check p log bundle) = verdictAs (p log bundle)
+
+abbrev asked : Trial → List ℕ
+asked (step p log at) = stepAs (nextAt log at)
+asked (walk p log) = walkedAs (walkOf log)
+asked (read k apart p log at) = apart (recordAt k log at) ∷ []
+asked (write p i out) = bufferOf (refusalOf i (length out)) (padded i) out
+asked (check p log bundle) = verdictAs (checkOf log bundle)
+
+meets-same : (t : Trial) → Meets t → given t ≡ asked t
+meets-same (step p log at) e = ap stepAs e
+meets-same (walk p log) e = ap walkedAs e
+meets-same (read k apart p log at) m = ap (λ r. apart r ∷ []) (m .value)
+meets-same (write p i out) m = m .buffer
+meets-same (check p log bundle) e = ap verdictAs e
+
+same : List ℕ → List ℕ → Bool
+same [] [] = true
+same [] (y ∷ ys) = false
+same (x ∷ xs) [] = false
+same (x ∷ xs) (y ∷ ys) = eqb x y && same xs ys
+
+same-self : (xs : List ℕ) → same xs xs ≡ true
+unfolding same
+same-self [] = refl
+same-self (x ∷ xs) = rw (eq-eqb x x refl, same-self xs)
+
+noneSame : List Wrong → Bool
+noneSame [] = true
+noneSame (w ∷ ws) = not (same (given (w .tried)) (asked (w .tried))) && noneSame ws
+
+differ : (t : Trial) → same (given t) (asked t) ≡ false → Meets t → ⊥
+differ t f m =
+    let e = meets-same t m in
+    let u : same (asked t) (asked t) ≡ false = rw e at f in
+    let s = same-self (asked t) in
+    let z : _≡_ {A = ℕ} 0 1 = cc in
+    omega arith
+
+refuted : (ws : List Wrong) → noneSame ws ≡ true → AllRefuted ws
+unfolding noneSame
+refuted [] e = tt
+refuted (w ∷ ws) e =
+    let h = both-true (not (same (given (w .tried)) (asked (w .tried)))) (noneSame ws) e in
+    (differ (w .tried) (not-true _ (h .0)), refuted ws (h .1))
+
+computed : noneSame wrongs ≡ true
+unfolding noneSame same wrongs m2 m9 m11 m12 seventeen unclean wrapping lin168 otherSize otherType strayAndTwice twenty hex walkOf metAt nextAt answered faultOf find headerOf unitOk typeList sizesIn rowIn allowed headerFits first padding num val nums le allZero lookAt recordIn recordAt overloadOf tailOf messageOf header.object header.header header.head overload.overload bytesOf refusalOf checkOf cutOf cut.faultOf shapeOk big troubleOf
+computed = refl
+
+pub all-refuted : AllRefuted wrongs
+all-refuted = refuted wrongs computed

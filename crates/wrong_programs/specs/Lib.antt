@@ -1,0 +1,5 @@
+pub mod Samples
+pub mod Readers
+pub mod Records
+pub mod Checks
+pub mod Wrong

@@ -1,0 +1,88 @@
+-- 01, "What a reader of the contracts must find" and "Slips of the pen": wrong readers, each a step as `Cursor::step`
+-- is, and its walk.
+use Prim.Native.Nat.{ℕ, zero, suc, _+_, _%_}
+use mathlib.Core.Bool.{Bool, cond, not, _&&_, _||_}
+use mathlib.Core.List.{List, [], _∷_}
+use lib.ListN.{length, drop}
+use lib.Dec.{eqb, leb}
+use Rattle.headers.specs.Format.{extent, sizeAt, kindAt}
+use Rattle.headers.specs.Rows.{rowOf, listed}
+use Rattle.objects.specs.declared.Step.{Step}
+use Rattle.objects.specs.declared.Answer.{Answer}
+use Rattle.objects.specs.declared.Answer.the-variants.{Object, Done, Refused}
+use Rattle.objects.specs.declared.Walked.{Walked}
+use Rattle.objects.specs.declared.Walked.the-variants as walked
+use Rattle.objects.specs.Table.{Row, row, table, firstOf}
+use Rattle.objects.specs.Next.{cursor, faultOf}
+use Rattle.objects.specs.Walk.{walkOf}
+
+-- a step by its own number (0: nothing is at fault) and its own next place; at the log's end it is done
+abbrev pub answer : List ℕ → ℕ → ℕ → ℕ → Step
+answer t at next zero = record { answer = Object at (sizeAt t) (kindAt t); next = cursor next }
+answer t at next (suc n) = record { answer = Refused (suc n) at; next = cursor at }
+
+abbrev pub stepBy : (List ℕ → ℕ → ℕ) → (List ℕ → ℕ → ℕ) → List ℕ → ℕ → Step
+stepBy fault next s at = cond (eqb at (length s)) (record { answer = Done; next = cursor at }) (answer (drop at s) at (next s at) (fault s at))
+
+-- the walk by a step, in at most `fuel` steps
+abbrev pub goOn : (ℕ → Walked) → ℕ → ℕ → Answer → Walked
+goOn on next n (Object start size kind) = on next
+goOn on next n Done = walked.Count n
+goOn on next n (Refused number place) = walked.Refused number place
+
+abbrev pub walkFrom : (List ℕ → ℕ → Step) → ℕ → List ℕ → ℕ → ℕ → Walked
+walkFrom step zero s at n = walked.Count n
+walkFrom step (suc fuel) s at n = goOn (λ next. walkFrom step fuel s next (n + 1)) (step s at .next .at) n (step s at .answer)
+
+abbrev pub walkBy : (List ℕ → ℕ → Step) → List ℕ → Walked
+walkBy step s = walkFrom step (suc (length s)) s 0 0
+
+-- behind object and padding, as it should be
+abbrev pub behind : List ℕ → ℕ → ℕ
+behind s at = at + extent (sizeAt (drop at s))
+
+-- the tests with the one of this number let through where `free` says so
+abbrev pub letThrough : ℕ → Bool → List Row → List Row
+letThrough n free [] = []
+letThrough n free (r ∷ rs) = row (r .number) (r .holds || (free && eqb (r .number) n)) ∷ letThrough n free rs
+
+abbrev pub refusesAll : List ℕ → ℕ → Step
+refusesAll = stepBy (λ s at. 2) behind
+
+abbrev pub acceptsAll : List ℕ → ℕ → Step
+acceptsAll = stepBy (λ s at. 0) behind
+
+-- judges the first object and only steps over the others
+abbrev pub firstOnly : List ℕ → ℕ → Step
+firstOnly = stepBy (λ s at. cond (eqb at 0) (faultOf s) 0) behind
+
+-- takes the size to include the padding
+abbrev pub paddingInSize : List ℕ → ℕ → Step
+paddingInSize = stepBy (λ s at. faultOf (drop at s)) (λ s at. at + sizeAt (drop at s))
+
+-- steps over foreign objects without testing the padding
+abbrev pub foreignUntested : List ℕ → ℕ → Step
+foreignUntested = stepBy (λ s at. firstOf (letThrough 6 (not (listed (rowOf (kindAt (drop at s))))) (table (drop at s)))) behind
+
+-- the same for the log's last object
+abbrev pub lastUntested : List ℕ → ℕ → Step
+lastUntested = stepBy (λ s at. firstOf (letThrough 6 (eqb (behind s at) (length s)) (table (drop at s)))) behind
+
+-- adds start and size in 32 bits: an end that wraps is not past the log's
+abbrev pub behind32 : List ℕ → ℕ → ℕ
+behind32 s at = behind s at % 4294967296
+
+abbrev pub sum32 : List ℕ → ℕ → Step
+sum32 = stepBy (λ s at. firstOf (letThrough 5 (leb (behind32 s at) (length s)) (table (drop at s)))) behind32
+
+-- counts one object more than there is
+abbrev pub oneMore : Walked → Walked
+oneMore (walked.Count n) = walked.Count (suc n)
+oneMore (walked.Refused number place) = walked.Refused number place
+
+abbrev pub countsOneMore : List ℕ → Walked
+countsOneMore s = oneMore (walkOf s)
+
+-- counts so many objects, whatever the log
+abbrev pub counts : ℕ → List ℕ → Walked
+counts n s = walked.Count n

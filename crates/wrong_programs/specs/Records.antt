@@ -1,0 +1,23 @@
+-- 01, "What a reader of the contracts must find" and "Slips of the pen": wrong readers and writers of records.
+use Prim.Native.Nat.{ℕ}
+use mathlib.Core.List.{List}
+use lib.ListN.{length}
+use Rattle.fields.specs.Numbers.{part}
+use Rattle.headers.specs.Types.{Kind, linMessage}
+use Rattle.objects.specs.Kinds.{Record}
+use Rattle.objects.specs.Items.{Item, padded}
+use Rattle.outcomes.specs.declared.Written.{Written}
+use Rattle.outcomes.specs.declared.Written.the-variants.{Used}
+use Rattle.outcomes.specs.Reads.{recordIn}
+
+-- reads one constant record
+abbrev pub constant : (k : Kind) → Record k → List ℕ → ℕ → Record k
+constant k r s at = r
+
+-- reads every LIN message as one of 184 bytes, with an exact rate
+abbrev pub exactRate : List ℕ → ℕ → Record linMessage
+exactRate s at = recordIn linMessage (part 184 s at)
+
+-- answers success and leaves the buffer as it was
+abbrev pub writesNothing : Item → List ℕ → Written × List ℕ
+writesNothing i out = (Used (length (padded i)), out)

@@ -1,0 +1,90 @@
+-- 01, "What a reader of the contracts must find" and "Slips of the pen": the wrong programs, each beside an input on
+-- which its contract does not hold. `all-refuted` of proofs/Refuted says so of every row.
+use Prim.Native.Nat.{ℕ}
+use Prim.Native.String.{String}
+use mathlib.Core.Path.{_≡_}
+use mathlib.Core.List.{List, [], _∷_, _++_}
+use lib.ListN.{set}
+use Rattle.fields.specs.Numbers.{zeros}
+use Rattle.lin.specs.declared.tail.Tail.{Tail}
+use Rattle.lin.specs.declared.tail.Tail.the-variants.{Nothing, Response, Rates}
+use Rattle.objects.specs.declared.Step.{Step}
+use Rattle.objects.specs.declared.Walked.{Walked}
+use Rattle.headers.specs.Types.{Kind, overload, linMessage, numberOf}
+use Rattle.objects.specs.Kinds.{Record}
+use Rattle.objects.specs.Items.{Item, known}
+use Rattle.objects.specs.Next.{nextAt}
+use Rattle.objects.specs.Walk.{walkOf}
+use Rattle.outcomes.specs.declared.Written.{Written}
+use Rattle.outcomes.specs.Reads.{lookAt, recordAt, Reads}
+use Rattle.outcomes.specs.Writes.{Outcome}
+use Rattle.slips.specs.declared.pass.Verdict.{Verdict}
+use Rattle.slips.specs.Check.{checkOf}
+use Rattle.marked_examples.specs.Marked.{m2, m9, m11}
+use Rattle.wrong_programs.specs.Samples.{seventeen, unclean, wrapping, lin168, m12, otherSize, otherType, strayAndTwice, twenty}
+use Rattle.wrong_programs.specs.Readers as readers
+use Rattle.wrong_programs.specs.Readers.{walkBy}
+use Rattle.wrong_programs.specs.Records as records
+use Rattle.wrong_programs.specs.Checks as checks
+
+-- a program and what it is tried on
+pub data Trial : Type 0 where
+  step : (List ℕ → ℕ → Step) → List ℕ → ℕ → Trial
+  walk : (List ℕ → Walked) → List ℕ → Trial
+  -- with a number by which two records are told apart
+  read : (k : Kind) → (Record k → ℕ) → (List ℕ → ℕ → Record k) → List ℕ → ℕ → Trial
+  write : (Item → List ℕ → Written × List ℕ) → Item → List ℕ → Trial
+  check : (List ℕ → List ℕ → Verdict) → List ℕ → List ℕ → Trial
+
+-- what the contract of the call says of it
+abbrev pub Meets : Trial → Type 0
+Meets (step p log at) = p log at ≡ nextAt log at
+Meets (walk p log) = p log ≡ walkOf log
+Meets (read k apart p log at) = Reads k log at (lookAt log at (numberOf k) .told) (nextAt log at .next) (p log at)
+Meets (write p i out) = Outcome i (p i out .0) out (p i out .1)
+Meets (check p log bundle) = p log bundle ≡ checkOf log bundle
+
+-- which of its three ends a LIN message has
+abbrev pub endOf : Tail → ℕ
+endOf Nothing = 0
+endOf (Response response) = 1
+endOf (Rates response exact header-stop response-stop) = 2
+
+pub record Wrong : Type 0 where
+  pub name : String
+  pub tried : Trial
+
+abbrev pub wrong : String → Trial → Wrong
+wrong name t = record { name = name; tried = t }
+
+-- `set log n b` is the log with byte n set to b
+unfoldable pub wrongs : List Wrong
+wrongs =
+    wrong "a reader that refuses everything" (step readers.refusesAll m2 0)
+    ∷ wrong "its walk" (walk (walkBy readers.refusesAll) m2)
+    ∷ wrong "a reader that accepts everything" (step readers.acceptsAll (set m2 34 1) 0)
+    ∷ wrong "its walk" (walk (walkBy readers.acceptsAll) (set m2 34 1))
+    ∷ wrong "a walk that judges the first object and only steps over the others" (walk (walkBy readers.firstOnly) (m2 ++ set m2 34 1 ++ m2))
+    ∷ wrong "a walk with a made-up object count" (walk readers.countsOneMore (m2 ++ m2))
+    ∷ wrong "the object size taken to include its padding, in the step" (step readers.paddingInSize seventeen 0)
+    ∷ wrong "its walk" (walk (walkBy readers.paddingInSize) (seventeen ++ m9))
+    ∷ wrong "foreign objects stepped over without testing the padding" (walk (walkBy readers.foreignUntested) (unclean ++ m2))
+    ∷ wrong "the last object's padding not tested" (walk (walkBy readers.lastUntested) (m2 ++ unclean))
+    ∷ wrong "start and size added in 32 bits" (step readers.sum32 (m9 ++ wrapping) 16)
+    ∷ wrong "a writer that writes nothing" (write records.writesNothing (known overload (recordAt overload m2 0)) (zeros 40))
+    ∷ wrong "an exact rate out of a 168-byte LIN message" (read linMessage (λ m. endOf (m .tail)) records.exactRate (lin168 ++ m9) 0)
+    ∷ wrong "a check that refuses everything" (check checks.refusesAll (m2 ++ m2) m11)
+    ∷ wrong "a check that accepts everything" (check checks.acceptsAll (m2 ++ m2) [])
+    ∷ wrong "a check that compares the first slip only" (check checks.firstSlipOnly (m2 ++ m2) m12)
+    ∷ wrong "a check with a made-up object count" (check checks.countsOneMore (m2 ++ m2) m11)
+    ∷ wrong "entries compared by start alone, so a wrong size passes" (check checks.byStartAlone (m2 ++ m2) otherSize)
+    ∷ wrong "entries compared without the type" (check checks.withoutType (m2 ++ m2) otherType)
+    ∷ wrong "the object size taken to include its padding, in a slip" (check checks.paddingInSize seventeen twenty)
+    ∷ wrong "26 tried before 25" (check checks.twiceFirst (m2 ++ m2) strayAndTwice)
+    ∷ wrong "trouble told before a later damage of the log" (check checks.troubleFirst (m2 ++ set m2 34 1) [])
+    ∷ []
+
+-- no row meets its contract
+abbrev pub AllRefuted : List Wrong → Type 0
+AllRefuted [] = Unit
+AllRefuted (w ∷ ws) = (Meets (w .tried) → ⊥) × AllRefuted ws
