@@ -1,4 +1,4 @@
-// The FlexRay record of document 002: what refuses it, and its body read and written.
+// The FlexRay record of document 002: what refuses it, how it is read from an object, and its body written.
 mod receive;
 
 pub use receive::Receive;
