@@ -12,27 +12,30 @@ use denote.Struct.Declared as struct
 use denote.Struct.Laws.{val}
 use borrow.Author.Needs.{needs}
 use Rattle.headers.specs.Format.{unitOk}
+use Rattle.headers.specs.Form.{Valid}
+use Rattle.can.specs.Fields.{messageFormat, overloadFormat, statisticFormat}
+use Rattle.can.specs.Tables.{messageSlots, messageForm, overloadSlots, overloadForm, counterSlots, statisticSlots, statisticForm}
 use Rattle.can.specs.declared.message.Message.{Message}
-use Rattle.can.specs.Message.{ValidMessage}
 use Rattle.can.proofs.message.Message as message
 use Rattle.can.proofs.message.Message.Laws as message-laws
 use Rattle.can.specs.declared.overload.Overload.{Overload}
-use Rattle.can.specs.Overload.{ValidOverload}
 use Rattle.can.proofs.overload.Overload as overload
 use Rattle.can.proofs.overload.Overload.Laws as overload-laws
 use Rattle.can.specs.declared.statistic.Statistic.{Statistic}
-use Rattle.can.specs.Statistic.{ValidStatistic}
 use Rattle.can.proofs.statistic.Statistic as statistic
 use Rattle.can.proofs.statistic.Statistic.Laws as statistic-laws
 
-pub message-known : (r : Message) → Is (struct.row message.the-type) r (val message.the-type message-laws.the-laws r ∷ []) → unitOk (r .header .unit) ≡ true → ValidMessage r
+pub message-known : (r : Message) → Is (struct.row message.the-type) r (val message.the-type message-laws.the-laws r ∷ []) → unitOk (r .header .unit) ≡ true → Valid messageFormat messageForm r
+unfolding messageSlots
 message-known r g u =
     let byte : (i : ℕ) → Fits w8 (getD (r .bytes) i 0) = λ i. search (needs, g .1 .1 .1 .1 .1 .1 .1 .0) in
     let bytes : (i : ℕ) → i < 8 → getD (r .bytes) i 0 < 256 ^ 1 = λ i l. byte i .fits in
     search (needs, g, u, bytes)
 
-pub overload-known : (r : Overload) → Is (struct.row overload.the-type) r (val overload.the-type overload-laws.the-laws r ∷ []) → unitOk (r .header .unit) ≡ true → ValidOverload r
+pub overload-known : (r : Overload) → Is (struct.row overload.the-type) r (val overload.the-type overload-laws.the-laws r ∷ []) → unitOk (r .header .unit) ≡ true → Valid overloadFormat overloadForm r
+unfolding overloadSlots
 overload-known r g u = search (needs, g, u)
 
-pub statistic-known : (r : Statistic) → Is (struct.row statistic.the-type) r (val statistic.the-type statistic-laws.the-laws r ∷ []) → unitOk (r .header .unit) ≡ true → ValidStatistic r
+pub statistic-known : (r : Statistic) → Is (struct.row statistic.the-type) r (val statistic.the-type statistic-laws.the-laws r ∷ []) → unitOk (r .header .unit) ≡ true → Valid statisticFormat statisticForm r
+unfolding statisticSlots counterSlots
 statistic-known r g u = search (needs, g, u)

@@ -3,8 +3,9 @@ ghost use mathlib.Core.Path.{_≡_};
 ghost use Prim.Native.Nat.{_+_, _≤_};
 ghost use lib.ListN.{length};
 ghost use Rattle.fields.specs.Written.{Wrote};
+ghost use Rattle.fields.specs.Slots.{bytesOf};
 ghost use Rattle.headers.specs.Format.{headerOf, bodyOf};
-ghost use Rattle.can.specs.Message.{message, messageFault};
+ghost use Rattle.can.specs.Tables.{messageSlots};
 ghost use Rattle.can.specs.Fields.{messageOf};
 
 pub struct Message {
@@ -14,13 +15,6 @@ pub struct Message {
     pub dlc: u8,
     pub id: u32,
     pub bytes: [u8; 8],
-}
-
-// What refuses a message: 7, or 0 for nothing. Its body is never refused.
-pub fn message_fault(h: headers::Header, b: &[u8]) -> u32
-    ensures { λ r. ⌜ r ≡ messageFault h (now (b .entry)) ⌝ }
-{
-    headers::first(7, headers::unit_ok(h.unit), 0)
 }
 
 // The message that an object is.
@@ -42,7 +36,7 @@ pub fn get_message(o: &[u8]) -> Message
 // The body of a message, written at a place.
 pub fn put_message(out: &mut [u8], at: usize, r: Message)
     requires { ⌜ at + 16 ≤ length (now out) ⌝ }
-    ensures { λ _. ⌜ Wrote at (message r) (now (out .entry)) (now (out .exit)) ⌝ }
+    ensures { λ _. ⌜ Wrote at (bytesOf messageSlots r) (now (out .entry)) (now (out .exit)) ⌝ }
 {
     let bytes = r.bytes;
     fields::put16(out, at, r.channel);

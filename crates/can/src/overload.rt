@@ -3,22 +3,23 @@ ghost use mathlib.Core.Path.{_≡_};
 ghost use Prim.Native.Nat.{_+_, _≤_};
 ghost use lib.ListN.{length};
 ghost use Rattle.fields.specs.Written.{Wrote};
+ghost use Rattle.fields.specs.Slots.{bytesOf};
 ghost use Rattle.headers.specs.Format.{headerOf, bodyOf};
-ghost use Rattle.can.specs.Overload.{overload, overloadFault};
-ghost use Rattle.can.specs.Fields.{overloadOf};
+ghost use Rattle.headers.specs.Form.{bodyFault};
+ghost use Rattle.can.specs.Tables.{overloadSlots};
+ghost use Rattle.can.specs.Fields.{overloadOf, overloadFormat};
 
 pub struct Overload {
     pub header: headers::Header,
     pub channel: u16,
 }
 
-// What refuses an overload: 7, 8, or 0 for nothing.
-pub fn overload_fault(h: headers::Header, b: &[u8]) -> u32
+// What refuses the body of an overload: 8, or 0 for nothing.
+pub fn overload_fault(b: &[u8]) -> u32
     requires { ⌜ 4 ≤ length (now b) ⌝ }
-    ensures { λ r. ⌜ r ≡ overloadFault h (now (b .entry)) ⌝ }
+    ensures { λ r. ⌜ r ≡ bodyFault overloadFormat (now (b .entry)) ⌝ }
 {
-    let reserved = fields::all_zero(b, 2, 2);
-    headers::first(7, headers::unit_ok(h.unit), headers::first(8, reserved, 0))
+    headers::first(8, fields::all_zero(b, 2, 2), 0)
 }
 
 // The overload that an object is.
@@ -36,7 +37,7 @@ pub fn get_overload(o: &[u8]) -> Overload
 // The body of an overload, written at a place.
 pub fn put_overload(out: &mut [u8], at: usize, r: Overload)
     requires { ⌜ at + 4 ≤ length (now out) ⌝ }
-    ensures { λ _. ⌜ Wrote at (overload r) (now (out .entry)) (now (out .exit)) ⌝ }
+    ensures { λ _. ⌜ Wrote at (bytesOf overloadSlots r) (now (out .entry)) (now (out .exit)) ⌝ }
 {
     fields::put16(out, at, r.channel);
     fields::put_zeros(out, at + 2, 2);

@@ -3,8 +3,9 @@ ghost use mathlib.Core.Path.{_≡_};
 ghost use Prim.Native.Nat.{_+_, _≤_};
 ghost use lib.ListN.{length};
 ghost use Rattle.fields.specs.Written.{Wrote};
+ghost use Rattle.fields.specs.Slots.{bytesOf};
 ghost use Rattle.headers.specs.Format.{headerOf, bodyOf};
-ghost use Rattle.can.specs.Statistic.{counters, statistic, statisticFault};
+ghost use Rattle.can.specs.Tables.{counterSlots, statisticSlots};
 ghost use Rattle.can.specs.Fields.{statisticOf};
 
 pub struct Statistic {
@@ -18,13 +19,6 @@ pub struct Statistic {
     pub extended_remote: u32,
     pub errors: u32,
     pub overloads: u32,
-}
-
-// What refuses a statistic: 7, or 0 for nothing. Its body is never refused.
-pub fn statistic_fault(h: headers::Header, b: &[u8]) -> u32
-    ensures { λ r. ⌜ r ≡ statisticFault h (now (b .entry)) ⌝ }
-{
-    headers::first(7, headers::unit_ok(h.unit), 0)
 }
 
 // The statistic that an object is.
@@ -49,7 +43,7 @@ pub fn get_statistic(o: &[u8]) -> Statistic
 // The six counters, written at a place.
 fn put_counters(out: &mut [u8], at: usize, r: Statistic)
     requires { ⌜ at + 24 ≤ length (now out) ⌝ }
-    ensures { λ _. ⌜ Wrote at (counters r) (now (out .entry)) (now (out .exit)) ⌝ }
+    ensures { λ _. ⌜ Wrote at (bytesOf counterSlots r) (now (out .entry)) (now (out .exit)) ⌝ }
 {
     fields::put32(out, at, r.standard_data);
     fields::put32(out, at + 4, r.extended_data);
@@ -62,7 +56,7 @@ fn put_counters(out: &mut [u8], at: usize, r: Statistic)
 // The body of a statistic, written at a place.
 pub fn put_statistic(out: &mut [u8], at: usize, r: Statistic)
     requires { ⌜ at + 28 ≤ length (now out) ⌝ }
-    ensures { λ _. ⌜ Wrote at (statistic r) (now (out .entry)) (now (out .exit)) ⌝ }
+    ensures { λ _. ⌜ Wrote at (bytesOf statisticSlots r) (now (out .entry)) (now (out .exit)) ⌝ }
 {
     fields::put16(out, at, r.channel);
     fields::put16(out, at + 2, r.load);

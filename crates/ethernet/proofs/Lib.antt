@@ -1,5 +1,3 @@
-pub mod StatusLaws
-pub mod EventLaws
-pub mod FrameLaws
-pub mod ErrorLaws
+pub mod Sizes
+pub mod Laws
 pub mod KnownLaws

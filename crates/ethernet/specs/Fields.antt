@@ -1,9 +1,12 @@
 -- 01, types 103 and 120 to 123: where the fields of the Ethernet records stand. Offsets from the header's end.
-use Prim.Native.Nat.{ℕ}
-use mathlib.Core.List.{List}
-use lib.ListN.{drop}
+use Prim.Native.Nat.{ℕ, _-_}
+use mathlib.Core.List.{List, [], _∷_}
+use lib.Dec.{eqb, leb}
+use lib.ListN.{length, drop}
 use Rattle.fields.specs.Numbers.{num}
+use Rattle.fields.specs.Rules.{Gap, gap, Rule, rule}
 use Rattle.headers.specs.declared.header.Header.{Header}
+use Rattle.headers.specs.TypeFormat.{Format, simple}
 use Rattle.ethernet.specs.declared.status.Status.{Status}
 use Rattle.ethernet.specs.declared.frame.Frame.{Frame}
 use Rattle.ethernet.specs.declared.frame_error.FrameError.{FrameError}
@@ -24,6 +27,9 @@ statusOf h b = record {
   hardware = num 1 b 11;
   bitrate = num 4 b 12;
 }
+
+abbrev pub statusFormat : Format
+statusFormat = simple Status (λ r. r .header) statusOf []
 
 -- the bytes between the header and the frame
 abbrev pub structureLength : ℕ
@@ -59,3 +65,30 @@ frameIn h b = record { value = frameOf h b; bytes = drop structureLength b }
 
 abbrev pub errorIn : Header → List ℕ → Framed FrameError
 errorIn h b = record { value = errorOf h b; bytes = drop structureLength b }
+
+-- 9: structure length not 32; frame length not size minus 64
+abbrev pub lengthRules : List ℕ → List Rule
+lengthRules b =
+    rule 0 (eqb (num 2 b 0) structureLength)
+    ∷ rule 22 (eqb (num 2 b 22) (length b - structureLength))
+    ∷ []
+
+-- what frames and errors share; on writing, a frame above 1,612 bytes is 9
+abbrev pub eventFormat : (A : Type 0) → (A → Frame) → (Header → List ℕ → Framed A) → List Gap → Format
+eventFormat A pick of gaps =
+    record {
+      Record = Framed A;
+      header = λ f. pick (f .value) .header;
+      of = of;
+      gaps = gaps;
+      rules = lengthRules;
+      content = λ f. leb (length (f .bytes)) longestFrame;
+      frame = λ f. f .bytes;
+    }
+
+abbrev pub frameFormat : Format
+frameFormat = eventFormat Frame (λ r. r) frameIn (gap 28 4 ∷ [])
+
+-- the code stands where a frame has reserved bytes
+abbrev pub errorFormat : Format
+errorFormat = eventFormat FrameError (λ e. e .frame) errorIn []

@@ -3,15 +3,17 @@ use crate::frame::Frame;
 ghost use mathlib.Core.Path.{_≡_};
 ghost use Prim.Native.Nat.{_+_, _≤_};
 ghost use lib.ListN.{length};
-ghost use Rattle.fields.specs.Digits.{le};
+ghost use Rattle.fields.specs.Rules.{allRight};
 ghost use Rattle.fields.specs.Written.{Wrote};
-ghost use Rattle.ethernet.specs.Fields.{structureLength, longestFrame};
-ghost use Rattle.ethernet.specs.Event.{origin, transmission, event, lengthFault};
+ghost use Rattle.fields.specs.Slots.{number, bytesOf};
+ghost use Rattle.headers.specs.HeadTests.{first};
+ghost use Rattle.ethernet.specs.Fields.{structureLength, longestFrame, lengthRules};
+ghost use Rattle.ethernet.specs.Tables.{originSlots, transmissionSlots, eventSlots};
 
 // What refuses the two lengths in a body: 9, or 0 for nothing.
 pub fn length_fault(b: &[u8]) -> u32
     requires { ⌜ structureLength ≤ length (now b) ⌝ }
-    ensures { λ r. ⌜ r ≡ lengthFault (now (b .entry)) ⌝ }
+    ensures { λ r. ⌜ r ≡ first 9 (allRight (lengthRules (now (b .entry)))) 0 ⌝ }
 {
     let structure = fields::get16(b, 0) as usize == Frame::LENGTH;
     let frame = fields::get16(b, 22) as usize == b.len() - Frame::LENGTH;
@@ -20,7 +22,7 @@ pub fn length_fault(b: &[u8]) -> u32
 
 fn put_origin(out: &mut [u8], at: usize, r: Frame)
     requires { ⌜ at + 8 ≤ length (now out) ⌝ }
-    ensures { λ _. ⌜ Wrote at (origin r) (now (out .entry)) (now (out .exit)) ⌝ }
+    ensures { λ _. ⌜ Wrote at (bytesOf (originSlots (λ f. f)) r) (now (out .entry)) (now (out .exit)) ⌝ }
 {
     fields::put16(out, at, Frame::LENGTH as u16);
     fields::put16(out, at + 2, r.flags);
@@ -30,7 +32,7 @@ fn put_origin(out: &mut [u8], at: usize, r: Frame)
 
 fn put_transmission(out: &mut [u8], at: usize, r: Frame, n: u16)
     requires { ⌜ at + 20 ≤ length (now out) ⌝ }
-    ensures { λ _. ⌜ Wrote at (transmission r n) (now (out .entry)) (now (out .exit)) ⌝ }
+    ensures { λ _. ⌜ Wrote at (bytesOf (transmissionSlots (λ f. f) (λ f. n)) r) (now (out .entry)) (now (out .exit)) ⌝ }
 {
     fields::put64(out, at, r.duration);
     fields::put32(out, at + 8, r.checksum);
@@ -42,7 +44,7 @@ fn put_transmission(out: &mut [u8], at: usize, r: Frame, n: u16)
 // The body of a frame or an error, written at a place; `last` is the number at 28.
 pub fn put_event(out: &mut [u8], at: usize, r: Frame, last: u32, lent: &[u8])
     requires { ⌜ (at + structureLength + length (now lent) ≤ length (now out)) × (length (now lent) ≤ longestFrame) ⌝ }
-    ensures { λ _. ⌜ Wrote at (event r (le 4 last) (now (lent .entry))) (now (out .entry)) (now (out .exit)) ⌝ }
+    ensures { λ _. ⌜ Wrote at (bytesOf (eventSlots (λ f. f) (number 4 (λ f. last)) (λ f. now (lent .entry))) r) (now (out .entry)) (now (out .exit)) ⌝ }
 {
     put_origin(out, at, r);
     put_transmission(out, at + 8, r, lent.len() as u16);

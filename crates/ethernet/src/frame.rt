@@ -5,9 +5,11 @@ ghost use mathlib.Core.Path.{_≡_};
 ghost use Prim.Native.Nat.{_+_, _≤_};
 ghost use lib.ListN.{length, drop};
 ghost use Rattle.fields.specs.Written.{Wrote};
+ghost use Rattle.fields.specs.Slots.{bytesOf};
 ghost use Rattle.headers.specs.Format.{headerOf, bodyOf};
-ghost use Rattle.ethernet.specs.Fields.{structureLength, longestFrame, frameOf};
-ghost use Rattle.ethernet.specs.Frame.{frame, frameFault};
+ghost use Rattle.headers.specs.Form.{bodyFault};
+ghost use Rattle.ethernet.specs.Fields.{structureLength, longestFrame, frameOf, frameFormat};
+ghost use Rattle.ethernet.specs.Tables.{frameSlots};
 
 // Structure length and frame length are not kept: they follow from the frame's bytes, which are lent beside the record.
 pub struct Frame {
@@ -26,17 +28,13 @@ impl Frame {
     pub const LENGTH: usize = 32;
 }
 
-// What refuses a frame: 7, 8, 9, or 0 for nothing.
-pub fn frame_fault(h: headers::Header, b: &[u8]) -> u32
+// What refuses the body of a frame: 8, 9, or 0 for nothing.
+pub fn frame_fault(b: &[u8]) -> u32
     requires { ⌜ structureLength ≤ length (now b) ⌝ }
-    ensures { λ r. ⌜ r ≡ frameFault h (now (b .entry)) ⌝ }
+    ensures { λ r. ⌜ r ≡ bodyFault frameFormat (now (b .entry)) ⌝ }
 {
     let reserved = fields::all_zero(b, 28, 4);
-    headers::first(
-        7,
-        headers::unit_ok(h.unit),
-        headers::first(8, reserved, length_fault(b)),
-    )
+    headers::first(8, reserved, length_fault(b))
 }
 
 // The record of the frame that an object holds; `frame_view` gives the frame's bytes.
@@ -68,7 +66,7 @@ pub fn frame_view(b: &[u8]) -> &[u8]
 // The body of a frame, written at a place: its record, and the frame's bytes, which are lent.
 pub fn put_frame(out: &mut [u8], at: usize, r: Frame, lent: &[u8])
     requires { ⌜ (at + structureLength + length (now lent) ≤ length (now out)) × (length (now lent) ≤ longestFrame) ⌝ }
-    ensures { λ _. ⌜ Wrote at (frame r (now (lent .entry))) (now (out .entry)) (now (out .exit)) ⌝ }
+    ensures { λ _. ⌜ Wrote at (bytesOf frameSlots (record { value = r; bytes = now (lent .entry) })) (now (out .entry)) (now (out .exit)) ⌝ }
 {
     put_event(out, at, r, 0, lent);
 }

@@ -7,9 +7,11 @@ ghost use mathlib.Core.Path.{_≡_};
 ghost use Prim.Native.Nat.{_+_, _≤_};
 ghost use lib.ListN.{length};
 ghost use Rattle.fields.specs.Written.{Wrote};
+ghost use Rattle.fields.specs.Slots.{bytesOf};
 ghost use Rattle.headers.specs.Format.{headerOf, bodyOf};
-ghost use Rattle.ethernet.specs.Fields.{structureLength, longestFrame, errorOf};
-ghost use Rattle.ethernet.specs.FrameError.{error, errorFault};
+ghost use Rattle.headers.specs.Form.{bodyFault};
+ghost use Rattle.ethernet.specs.Fields.{structureLength, longestFrame, errorOf, errorFormat};
+ghost use Rattle.ethernet.specs.Tables.{errorSlots};
 
 // The frame's fields, and the error code where a frame has reserved bytes.
 pub struct FrameError {
@@ -17,12 +19,12 @@ pub struct FrameError {
     pub code: u32,
 }
 
-// What refuses an error: 7, 9, or 0 for nothing.
-pub fn error_fault(h: headers::Header, b: &[u8]) -> u32
+// What refuses the body of an error: 9, or 0 for nothing.
+pub fn error_fault(b: &[u8]) -> u32
     requires { ⌜ structureLength ≤ length (now b) ⌝ }
-    ensures { λ r. ⌜ r ≡ errorFault h (now (b .entry)) ⌝ }
+    ensures { λ r. ⌜ r ≡ bodyFault errorFormat (now (b .entry)) ⌝ }
 {
-    headers::first(7, headers::unit_ok(h.unit), length_fault(b))
+    length_fault(b)
 }
 
 // The record of the error that an object holds; `frame_view` gives the frame's bytes.
@@ -40,7 +42,7 @@ pub fn get_error(o: &[u8]) -> FrameError
 // The body of an error, written at a place: its record, and the frame's bytes, which are lent.
 pub fn put_error(out: &mut [u8], at: usize, e: FrameError, lent: &[u8])
     requires { ⌜ (at + structureLength + length (now lent) ≤ length (now out)) × (length (now lent) ≤ longestFrame) ⌝ }
-    ensures { λ _. ⌜ Wrote at (error e (now (lent .entry))) (now (out .entry)) (now (out .exit)) ⌝ }
+    ensures { λ _. ⌜ Wrote at (bytesOf errorSlots (record { value = e; bytes = now (lent .entry) })) (now (out .entry)) (now (out .exit)) ⌝ }
 {
     put_event(out, at, e.frame, e.code, lent);
 }

@@ -17,4 +17,3 @@ pub use frame_error::put_error;
 pub use status::Status;
 pub use status::get_status;
 pub use status::put_status;
-pub use status::status_fault;

@@ -3,8 +3,9 @@ ghost use mathlib.Core.Path.{_≡_};
 ghost use Prim.Native.Nat.{_+_, _≤_};
 ghost use lib.ListN.{length};
 ghost use Rattle.fields.specs.Written.{Wrote};
+ghost use Rattle.fields.specs.Slots.{bytesOf};
 ghost use Rattle.headers.specs.Format.{headerOf, bodyOf};
-ghost use Rattle.ethernet.specs.Status.{status, statusFault};
+ghost use Rattle.ethernet.specs.Tables.{statusSlots};
 ghost use Rattle.ethernet.specs.Fields.{statusOf};
 
 pub struct Status {
@@ -20,13 +21,6 @@ pub struct Status {
     pub pairs: u8,
     pub hardware: u8,
     pub bitrate: u32,
-}
-
-// What refuses a status: 7, or 0 for nothing. Its body is not looked at.
-pub fn status_fault(h: headers::Header, b: &[u8]) -> u32
-    ensures { λ r. ⌜ r ≡ statusFault h (now (b .entry)) ⌝ }
-{
-    headers::first(7, headers::unit_ok(h.unit), 0)
 }
 
 // The status that an object is.
@@ -54,7 +48,7 @@ pub fn get_status(o: &[u8]) -> Status
 // The body of a status, written at a place.
 pub fn put_status(out: &mut [u8], at: usize, r: Status)
     requires { ⌜ at + 16 ≤ length (now out) ⌝ }
-    ensures { λ _. ⌜ Wrote at (status r) (now (out .entry)) (now (out .exit)) ⌝ }
+    ensures { λ _. ⌜ Wrote at (bytesOf statusSlots r) (now (out .entry)) (now (out .exit)) ⌝ }
 {
     let eight = [
         r.link,

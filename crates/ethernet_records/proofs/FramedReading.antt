@@ -1,44 +1,26 @@
 -- A read answers with the record r, and the view of the frame with the bytes b, exactly where r with b stands in the
 -- log as a valid item. Assumes nothing.
-use mathlib.Core.Path.{_≡_, refl, sym, ap, _∙_}
-use mathlib.Core.Bool.{cond}
+use mathlib.Core.Path.{_≡_, sym, ap, _∙_}
 use mathlib.Core.Logic.{_↔_}
-use mathlib.Core.List.{List, []}
+use mathlib.Core.List.{List}
 use Prim.Native.Nat.{ℕ}
-use lib.ListN.{drop}
 use Rattle.fields.specs.Numbers.{Bytes}
 use Rattle.headers.specs.Format.{bodyOf}
 use Rattle.headers.proofs.Objects.{body-object}
 use Rattle.ethernet.specs.declared.frame.Frame.{Frame}
 use Rattle.ethernet.specs.declared.frame_error.FrameError.{FrameError}
-use Rattle.ethernet.specs.Fields.{structureLength, Framed}
-use Rattle.ethernet.proofs.FrameLaws.{frame-view}
-use Rattle.ethernet.proofs.ErrorLaws.{error-view}
-use Rattle.headers.specs.Types.{Kind, canMessage, overload, statistic, receive, linMessage, wakeUp, ethernetStatus, frame, forwardedFrame, ethernetError, forwardedError, numberOf}
+use Rattle.ethernet.specs.Fields.{Framed}
+use Rattle.headers.specs.Types.{Kind, frame, forwardedFrame, ethernetError, forwardedError, numberOf}
 use Rattle.objects.specs.Kinds.{Record, layoutOf}
 use Rattle.objects.specs.Items.{known, bytesOf, Stands}
-use Rattle.objects.specs.Views.{isFrame, frameAt}
+use Rattle.objects.specs.Views.{frameAt}
+use Rattle.objects.proofs.KindLaws.{viewed}
 use Rattle.objects.proofs.Standing.{item-object}
 use Rattle.objects.proofs.ViewLaws.{object-here}
 use Rattle.outcomes.specs.declared.ReadAnswer.the-variants as told
 use Rattle.outcomes.specs.Reads.{lookAt, recordAt}
 use Rattle.outcomes.proofs.Reading.{read-stands, read-exact}
 use Rattle.ethernet_records.specs.Framed.{framed, frameBytes, Gives}
-
--- the view of a record's body is its frame
-viewed : (k : Kind) (r : Record k) → cond (isFrame (numberOf k)) (drop structureLength (layoutOf k .body r)) [] ≡ frameBytes k r
-unfolding isFrame
-viewed canMessage r = refl
-viewed overload r = refl
-viewed statistic r = refl
-viewed receive r = refl
-viewed linMessage r = refl
-viewed wakeUp r = refl
-viewed ethernetStatus r = refl
-viewed frame r = frame-view (r .value) (r .bytes)
-viewed forwardedFrame r = frame-view (r .value) (r .bytes)
-viewed ethernetError r = error-view (r .value) (r .bytes)
-viewed forwardedError r = error-view (r .value) (r .bytes)
 
 module _ (k : Kind) (s : List ℕ) (at : ℕ) where
   body-here : (r : Record k) → bodyOf (bytesOf (known k r)) ≡ layoutOf k .body r

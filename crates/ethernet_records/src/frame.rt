@@ -7,10 +7,10 @@ use outcomes::Written;
 ghost use mathlib.Core.Path.{_≡_};
 ghost use mathlib.Core.Logic.{_⊎_};
 ghost use lib.ListN.{length};
+ghost use Rattle.ethernet.specs.Tables.{frameSize};
 ghost use Rattle.headers.specs.Types.{frame, forwardedFrame, numberOf};
 ghost use Rattle.objects.specs.Items.{known};
 ghost use Rattle.outcomes.specs.Reads.{recordIn, ReadsAs};
-ghost use Rattle.outcomes.specs.Tested.{frameSize};
 ghost use Rattle.outcomes.specs.Writes.{Outcome};
 ghost use Rattle.ethernet_records.specs.Framed.{framed, bytesIn};
 

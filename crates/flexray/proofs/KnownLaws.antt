@@ -12,14 +12,22 @@ use denote.Struct.Declared as struct
 use denote.Struct.Laws.{val}
 use borrow.Author.Needs.{needs}
 use Rattle.headers.specs.Format.{unitOk}
+use Rattle.headers.specs.Form.{Valid}
 use Rattle.flexray.specs.declared.receive.Receive.{Receive}
-use Rattle.flexray.specs.Receive.{ValidReceive}
-use Rattle.flexray.specs.Fields.{countsOk}
+use Rattle.flexray.specs.Fields.{countsOk, receiveFormat}
+use Rattle.flexray.specs.Tables.{originSlots, slotSlots, controllerSlots, receiveSlots, receiveForm}
 use Rattle.flexray.proofs.receive.Receive as receive
 use Rattle.flexray.proofs.receive.Receive.Laws as receive-laws
 
-pub receive-known : (r : Receive) → Is (struct.row receive.the-type) r (val receive.the-type receive-laws.the-laws r ∷ []) → unitOk (r .header .unit) ≡ true → countsOk (r .total) (r .stored) ≡ true → ValidReceive r
+pub receive-known : (r : Receive) → Is (struct.row receive.the-type) r (val receive.the-type receive-laws.the-laws r ∷ []) → unitOk (r .header .unit) ≡ true → countsOk (r .total) (r .stored) ≡ true → Valid receiveFormat receiveForm r
+unfolding receiveSlots originSlots slotSlots controllerSlots
 receive-known r g u e =
     let byte : (i : ℕ) → Fits w8 (getD (r .bytes) i 0) = λ i. search (needs, g .1 .1 .1 .1 .1 .1 .1 .1 .1 .1 .1 .1 .1 .1 .1 .1 .1 .1 .0) in
     let bytes : (i : ℕ) → i < 254 → getD (r .bytes) i 0 < 256 ^ 1 = λ i l. byte i .fits in
-    search (needs, g, u, e, bytes)
+    record {
+      header = search (needs, g);
+      unit = u;
+      fits = (search (needs, g), (search (needs, g), (search (needs, g), (search (needs, g), (tt, (search (needs, g), (search (needs, g), (search (needs, g), (search (needs, g), (search (needs, g), (search (needs, g), (search (needs, g), (search (needs, g), (tt, (search (needs, g), (search (needs, g), (search (needs, g), (tt, ((search (needs, g), bytes), tt)))))))))))))))))));
+      extra = tt;
+      content = e;
+    }

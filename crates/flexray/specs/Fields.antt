@@ -1,10 +1,12 @@
 -- 01, type 50: FlexRay receive, 330 bytes (002, 3.7): where its fields stand. Offsets from the header's end.
 use Prim.Native.Nat.{ℕ}
 use mathlib.Core.Bool.{Bool, _&&_}
-use mathlib.Core.List.{List}
+use mathlib.Core.List.{List, [], _∷_}
 use lib.Dec.{leb}
 use Rattle.fields.specs.Numbers.{num, nums}
+use Rattle.fields.specs.Rules.{gap, rule}
 use Rattle.headers.specs.declared.header.Header.{Header}
+use Rattle.headers.specs.TypeFormat.{Format, frameless}
 use Rattle.flexray.specs.declared.receive.Receive.{Receive}
 
 unfoldable pub receiveOf : Header → List ℕ → Receive
@@ -33,3 +35,9 @@ unfoldable pub countsOk : ℕ → ℕ → Bool
 countsOk total stored =
     leb stored 254
     && leb stored total
+
+-- 8: the bytes skipped behind direction and cycle, and the reserved u32
+abbrev pub receiveFormat : Format
+receiveFormat =
+    frameless Receive (λ r. r .header) receiveOf (gap 7 1 ∷ gap 27 1 ∷ gap 40 4 ∷ [])
+    (λ b. rule 24 (countsOk (num 2 b 22) (num 2 b 24)) ∷ []) (λ r. countsOk (r .total) (r .stored))

@@ -1,4 +1,5 @@
-// The FlexRay record of document 002: what refuses it, how it is read from an object, and its body written.
+// The FlexRay record of document 002: it is read from an object; its body, what stands behind the object's header, is
+// tested and written.
 mod receive;
 
 pub use receive::Receive;

@@ -3,9 +3,11 @@ ghost use mathlib.Core.Path.{_≡_};
 ghost use Prim.Native.Nat.{_+_, _≤_};
 ghost use lib.ListN.{length};
 ghost use Rattle.fields.specs.Written.{Wrote};
+ghost use Rattle.fields.specs.Slots.{bytesOf};
 ghost use Rattle.headers.specs.Format.{headerOf, bodyOf};
-ghost use Rattle.flexray.specs.Receive.{origin, slot, controller, receive, receiveFault};
-ghost use Rattle.flexray.specs.Fields.{receiveOf, countsOk};
+ghost use Rattle.headers.specs.Form.{bodyFault};
+ghost use Rattle.flexray.specs.Tables.{originSlots, slotSlots, controllerSlots, receiveSlots};
+ghost use Rattle.flexray.specs.Fields.{receiveOf, countsOk, receiveFormat};
 
 pub struct Receive {
     pub header: headers::Header,
@@ -40,21 +42,17 @@ pub fn counts_ok(total: u16, stored: u16) -> bool
     stored <= total
 }
 
-// What refuses the header and the body of a receive event: 7, 8, 9, or 0 for nothing.
-pub fn receive_fault(h: headers::Header, b: &[u8]) -> u32
+// What refuses the body of a receive event: 8, 9, or 0 for nothing.
+pub fn receive_fault(b: &[u8]) -> u32
     requires { ⌜ 298 ≤ length (now b) ⌝ }
-    ensures { λ r. ⌜ r ≡ receiveFault h (now (b .entry)) ⌝ }
+    ensures { λ r. ⌜ r ≡ bodyFault receiveFormat (now (b .entry)) ⌝ }
 {
     let after_direction = fields::all_zero(b, 7, 1);
     let after_cycle = fields::all_zero(b, 27, 1);
     let reserved = fields::all_zero(b, 40, 4);
     let counts = counts_ok(fields::get16(b, 22), fields::get16(b, 24));
     let later = headers::first(8, reserved, headers::first(9, counts, 0));
-    headers::first(
-        7,
-        headers::unit_ok(h.unit),
-        headers::first(8, after_direction, headers::first(8, after_cycle, later)),
-    )
+    headers::first(8, after_direction, headers::first(8, after_cycle, later))
 }
 
 // The record that an object is.
@@ -88,7 +86,7 @@ pub fn get_receive(o: &[u8]) -> Receive
 // The parts before the data, each at its place in a body that begins at `at`.
 fn put_origin(out: &mut [u8], at: usize, r: Receive)
     requires { ⌜ at + 298 ≤ length (now out) ⌝ }
-    ensures { λ _. ⌜ Wrote at (origin r) (now (out .entry)) (now (out .exit)) ⌝ }
+    ensures { λ _. ⌜ Wrote at (bytesOf originSlots r) (now (out .entry)) (now (out .exit)) ⌝ }
 {
     fields::put16(out, at, r.channel);
     fields::put16(out, at + 2, r.version);
@@ -101,7 +99,7 @@ fn put_origin(out: &mut [u8], at: usize, r: Receive)
 
 fn put_slot(out: &mut [u8], at: usize, r: Receive)
     requires { ⌜ at + 298 ≤ length (now out) ⌝ }
-    ensures { λ _. ⌜ Wrote (at + 16) (slot r) (now (out .entry)) (now (out .exit)) ⌝ }
+    ensures { λ _. ⌜ Wrote (at + 16) (bytesOf slotSlots r) (now (out .entry)) (now (out .exit)) ⌝ }
 {
     fields::put16(out, at + 16, r.id);
     fields::put16(out, at + 18, r.crca);
@@ -114,7 +112,7 @@ fn put_slot(out: &mut [u8], at: usize, r: Receive)
 
 fn put_controller(out: &mut [u8], at: usize, r: Receive)
     requires { ⌜ at + 298 ≤ length (now out) ⌝ }
-    ensures { λ _. ⌜ Wrote (at + 28) (controller r) (now (out .entry)) (now (out .exit)) ⌝ }
+    ensures { λ _. ⌜ Wrote (at + 28) (bytesOf controllerSlots r) (now (out .entry)) (now (out .exit)) ⌝ }
 {
     fields::put32(out, at + 28, r.tag);
     fields::put32(out, at + 32, r.state);
@@ -125,7 +123,7 @@ fn put_controller(out: &mut [u8], at: usize, r: Receive)
 // The body of a receive event, written at a place.
 pub fn put_receive(out: &mut [u8], at: usize, r: Receive)
     requires { ⌜ at + 298 ≤ length (now out) ⌝ }
-    ensures { λ _. ⌜ Wrote at (receive r) (now (out .entry)) (now (out .exit)) ⌝ }
+    ensures { λ _. ⌜ Wrote at (bytesOf receiveSlots r) (now (out .entry)) (now (out .exit)) ⌝ }
 {
     let bytes = r.bytes;
     put_origin(out, at, r);

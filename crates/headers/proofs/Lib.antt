@@ -6,3 +6,5 @@ pub mod Objects
 pub mod Heads
 pub mod Layouts
 pub mod Bodies
+pub mod Forms
+pub mod BodyTests

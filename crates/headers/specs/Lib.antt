@@ -4,3 +4,5 @@ pub mod Rows
 pub mod Header
 pub mod HeadTests
 pub mod Layout
+pub mod TypeFormat
+pub mod Form

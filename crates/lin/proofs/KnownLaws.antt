@@ -13,14 +13,14 @@ use denote.Struct.Laws.{val}
 use denote.Enum.Declared as enum
 use borrow.Author.Needs.{needs}
 use Rattle.headers.specs.Format.{unitOk}
+use Rattle.headers.specs.Form.{Valid}
 use Rattle.lin.specs.declared.wake_up.WakeUp.{WakeUp}
 use Rattle.lin.specs.declared.message.Message.{Message}
 use Rattle.lin.specs.declared.tail.Tail.{Tail}
 use Rattle.lin.specs.declared.tail.Tail.the-variants.{Nothing, Response, Rates}
-use Rattle.lin.specs.WakeUp.{ValidWakeUp}
-use Rattle.lin.specs.Fields.{tailOk}
+use Rattle.lin.specs.Fields.{tailOk, messageFormat, wakeUpFormat}
 use Rattle.lin.specs.Tail.{FitTail}
-use Rattle.lin.specs.Message.{ValidMessage}
+use Rattle.lin.specs.Tables.{busSlots, synchSlots, descriptorSlots, statusSlots, machineSlots, messageSlots, messageForm, wakeUpSlots, wakeUpForm}
 use Rattle.lin.proofs.wake_up.WakeUp as wake-up
 use Rattle.lin.proofs.wake_up.WakeUp.Laws as wake-up-laws
 use Rattle.lin.proofs.tail.Tail as tail
@@ -28,7 +28,8 @@ use Rattle.lin.proofs.message.Message as message
 use Rattle.lin.proofs.message.Message.Laws as message-laws
 
 pub wake-up-known : (r : WakeUp) → Is (struct.row wake-up.the-type) r (val wake-up.the-type wake-up-laws.the-laws r ∷ [])
-    → unitOk (r .header .unit) ≡ true → ValidWakeUp r
+    → unitOk (r .header .unit) ≡ true → Valid wakeUpFormat wakeUpForm r
+unfolding busSlots wakeUpSlots
 wake-up-known r g u = search (needs, g, u)
 
 tail-known : (t : Tail) (vs : List Val) → Is (enum.row tail.the-type) t vs → FitTail t
@@ -37,7 +38,8 @@ tail-known (Response r) vs g = search (needs, g)
 tail-known (Rates r x a b) vs g = search (needs, g)
 
 pub message-known : (r : Message) → Is (struct.row message.the-type) r (val message.the-type message-laws.the-laws r ∷ [])
-    → unitOk (r .header .unit) ≡ true → tailOk (r .tail) ≡ true → ValidMessage r
+    → unitOk (r .header .unit) ≡ true → tailOk (r .tail) ≡ true → Valid messageFormat messageForm r
+unfolding busSlots synchSlots descriptorSlots statusSlots machineSlots messageSlots
 message-known r g u e =
     let at-stamps = g .1 .1 .1 .1 .1 .1 .1 .1 .1 .1 .1 .1 .1 .1 in
     let at-tail = at-stamps .1 .1 .1 .1 .1 .1 .1 .1 .1 .1 in
@@ -46,4 +48,10 @@ message-known r g u e =
     let stamps : (i : ℕ) → i < 9 → getD (r .stamps) i 0 < 256 ^ 8 = λ i l. stamp i .fits in
     let bytes : (i : ℕ) → i < 8 → getD (r .bytes) i 0 < 256 ^ 1 = λ i l. byte i .fits in
     let ending = tail-known (r .tail) _ (at-tail .0) in
-    search (needs, g, u, e, stamps, bytes, ending)
+    record {
+      header = search (needs, g);
+      unit = u;
+      fits = (search (needs, g), (search (needs, g), (search (needs, g), (tt, (search (needs, g), (search (needs, g), (search (needs, g), (search (needs, g), (search (needs, g), (search (needs, g), (search (needs, g), (search (needs, g), ((search needs, stamps), ((search needs, bytes), (search (needs, g), (search (needs, g), (search (needs, g), (search (needs, g), (search (needs, g), (search (needs, g), (search (needs, g), (search (needs, g), (tt, tt)))))))))))))))))))))));
+      extra = ending;
+      content = e;
+    }

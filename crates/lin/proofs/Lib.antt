@@ -1,7 +1,6 @@
 pub mod BusLaws
-pub mod WakeUpLaws
 pub mod RateLaws
 pub mod TailLaws
 pub mod SizeLaws
-pub mod MessageLaws
+pub mod Laws
 pub mod KnownLaws

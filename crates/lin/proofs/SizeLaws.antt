@@ -7,6 +7,7 @@ use native.Mathlib.Omega.{arith}
 use lib.ListN.{length, drop, length-drop}
 use lib.Ieee.{Float}
 use Rattle.fields.specs.Digits.{le, array}
+use Rattle.fields.specs.Slots.{bytesOf}
 use Rattle.headers.specs.declared.header.Header.{Header}
 use Rattle.headers.specs.Format.{headerLength}
 use Rattle.headers.specs.Types.{oneOf, Has, linMessage, numberOf, typeList, sizesIn}
@@ -14,19 +15,14 @@ use Rattle.headers.specs.Layout.{Sized}
 use Rattle.headers.proofs.TypeList.{types-exact}
 use Rattle.lin.specs.declared.message.Message.{Message}
 use Rattle.lin.specs.declared.tail.Tail.the-variants.{Rates}
-use Rattle.lin.specs.Bus.{bus}
 use Rattle.lin.specs.Tail.{tail, Decides}
-use Rattle.lin.specs.Message.{synch, descriptor, status, machines, message}
+use Rattle.lin.specs.Tables.{busSlots, synchSlots, descriptorSlots, statusSlots, machineSlots, messageSlots}
 use Rattle.lin.specs.Fields.{messageOf}
-use Rattle.lin.proofs.TailLaws.{sizeWith, Ends, tail-ends, same-length, decides}
+use Rattle.lin.proofs.TailLaws.{sizeWith, Ends, same-length, decides}
 
-pub message-length : (r : Message) → length (message r) ≡ 132 + length (tail (r .tail))
-unfolding message synch bus descriptor array status machines le
+pub message-length : (r : Message) → length (bytesOf messageSlots r) ≡ 132 + length (tail (r .tail))
+unfolding bytesOf busSlots synchSlots descriptorSlots statusSlots machineSlots messageSlots le array
 message-length r = omega arith
-
-pub message-sized : (r : Message) → Sized (numberOf linMessage) (message r)
-unfolding typeList sizesIn
-message-sized r = types-exact (numberOf linMessage) _ .1 (rw message-length (tail-ends (r .tail)))
 
 -- a body of one of the three sizes
 module _ (b : List ℕ) (s : Sized (numberOf linMessage) b) where

@@ -22,7 +22,7 @@ use Rattle.headers.specs.Format.{headerLength}
 use Rattle.headers.specs.Types.{oneOf, Has}
 use Rattle.lin.specs.declared.tail.Tail.{Tail}
 use Rattle.lin.specs.declared.tail.Tail.the-variants.{Nothing, Response, Rates}
-use Rattle.lin.specs.Tail.{rates, tail, FitTail, Decides}
+use Rattle.lin.specs.Tail.{rates, tail, FitTail, endSize, Decides}
 use Rattle.lin.specs.Fields.{tailOf, rateOk, tailOk}
 use Rattle.lin.proofs.tail.Tail.{the-type}
 use Rattle.lin.proofs.RateLaws.{rate-number}
@@ -40,6 +40,13 @@ unfolding tail rates le
 tail-ends Nothing = inl refl
 tail-ends (Response r) = inr (inl refl)
 tail-ends (Rates r x a b) = inr (inr refl)
+
+-- the size of an object by its end
+pub end-size : (t : Tail) → 164 + length (tail t) ≡ endSize t
+unfolding tail rates le
+end-size Nothing = refl
+end-size (Response response) = refl
+end-size (Rates response exact header-stop response-stop) = refl
 
 -- what holds of each way to end holds of the tail that bytes are
 pub by-length : (t : List ℕ) (P : Tail → Type 0) → Ends t → (length t ≡ 0 → P Nothing) → (length t ≡ 4 → P (Response (num 4 t 0)))

@@ -1,12 +1,14 @@
 -- 01, types 57 and 62: where the fields of the LIN records stand. Offsets from the header's end.
 use Prim.Native.Nat.{ℕ}
 use mathlib.Core.Bool.{Bool, true, false, not, cond}
-use mathlib.Core.List.{List}
+use mathlib.Core.List.{List, [], _∷_}
 use lib.ListN.{length, drop}
 use lib.Dec.{eqb}
 use lib.Ieee.{Float, nan, inf, fin, binary64, ofBits}
 use Rattle.fields.specs.Numbers.{num, nums}
+use Rattle.fields.specs.Rules.{gap, rule}
 use Rattle.headers.specs.declared.header.Header.{Header}
+use Rattle.headers.specs.TypeFormat.{Format, frameless, simple}
 use Rattle.lin.specs.declared.message.Message.{Message}
 use Rattle.lin.specs.declared.wake_up.WakeUp.{WakeUp}
 use Rattle.lin.specs.declared.tail.Tail.{Tail}
@@ -58,6 +60,12 @@ messageOf h b = record {
   tail = tailOf (drop 132 b);
 }
 
+-- the exact rate, where there is one, stands at 136
+abbrev pub messageFormat : Format
+messageFormat =
+    frameless Message (λ r. r .header) messageOf (gap 14 2 ∷ gap 129 3 ∷ [])
+    (λ b. rule 136 (tailOk (tailOf (drop 132 b))) ∷ []) (λ r. tailOk (r .tail))
+
 -- type 62: LIN wake-up 2, 52 bytes (001, 3.8)
 unfoldable pub wakeUpOf : Header → List ℕ → WakeUp
 wakeUpOf h b = record {
@@ -69,3 +77,6 @@ wakeUpOf h b = record {
   signal = num 1 b 17;
   external = num 1 b 18;
 }
+
+abbrev pub wakeUpFormat : Format
+wakeUpFormat = simple WakeUp (λ r. r .header) wakeUpOf (gap 14 2 ∷ gap 19 1 ∷ [])

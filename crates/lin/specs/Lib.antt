@@ -1,5 +1,3 @@
 pub mod Fields
-pub mod Bus
-pub mod WakeUp
 pub mod Tail
-pub mod Message
+pub mod Tables

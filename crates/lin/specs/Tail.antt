@@ -29,6 +29,12 @@ FitTail (Response response) = response < 256 ^ 4
 FitTail (Rates response exact header-stop response-stop) =
     (response < 256 ^ 4) × (fits binary64 exact ≡ true) × (header-stop < 256 ^ 4) × (response-stop < 256 ^ 4)
 
+-- the size of a LIN message's object, by its end
+abbrev pub endSize : Tail → ℕ
+endSize Nothing = 164
+endSize (Response response) = 168
+endSize (Rates response exact header-stop response-stop) = 184
+
 -- "The size decides which": an object's size, and how it ends
 pub record Decides (size : ℕ) (t : Tail) : Type 0 where
   pub nothing : (size ≡ 164) ↔ (t ≡ Nothing)

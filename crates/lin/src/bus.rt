@@ -2,11 +2,12 @@
 ghost use Prim.Native.Nat.{_+_, _≤_};
 ghost use lib.ListN.{length};
 ghost use Rattle.fields.specs.Written.{Wrote};
-ghost use Rattle.lin.specs.Bus.{bus};
+ghost use Rattle.fields.specs.Slots.{bytesOf};
+ghost use Rattle.lin.specs.Tables.{busSlots};
 
 pub(crate) fn put_bus(out: &mut [u8], at: usize, start: u64, baud: u32, channel: u16)
     requires { ⌜ at + 16 ≤ length (now out) ⌝ }
-    ensures { λ _. ⌜ Wrote at (bus start baud channel) (now (out .entry)) (now (out .exit)) ⌝ }
+    ensures { λ _. ⌜ Wrote at (bytesOf (busSlots {A = Unit} (λ u. start) (λ u. baud) (λ u. channel)) tt) (now (out .entry)) (now (out .exit)) ⌝ }
 {
     fields::put64(out, at, start);
     fields::put32(out, at + 8, baud);

@@ -9,10 +9,12 @@ ghost use mathlib.Core.Bool.{true};
 ghost use Prim.Native.Nat.{_+_, _≤_};
 ghost use lib.ListN.{length};
 ghost use Rattle.fields.specs.Written.{Wrote};
+ghost use Rattle.fields.specs.Slots.{bytesOf};
 ghost use Rattle.headers.specs.Format.{headerOf, bodyOf};
+ghost use Rattle.headers.specs.Form.{bodyFault};
 ghost use Rattle.lin.specs.Tail.{tail};
-ghost use Rattle.lin.specs.Fields.{tailOk, messageOf};
-ghost use Rattle.lin.specs.Message.{synch, descriptor, status, machines, message, messageFault};
+ghost use Rattle.lin.specs.Tables.{synchSlots, descriptorSlots, statusSlots, machineSlots, messageSlots};
+ghost use Rattle.lin.specs.Fields.{tailOk, messageOf, messageFormat};
 
 pub struct Message {
     pub header: headers::Header,
@@ -40,22 +42,18 @@ pub struct Message {
     pub tail: Tail,
 }
 
-// What refuses a message: 7, 8, 9, or 0 for nothing.
-pub fn message_fault(h: headers::Header, b: &[u8]) -> u32
+// What refuses the body of a message: 8, 9, or 0 for nothing.
+pub fn message_fault(b: &[u8]) -> u32
     requires { ⌜ 132 ≤ length (now b) ⌝ }
-    ensures { λ r. ⌜ r ≡ messageFault h (now (b .entry)) ⌝ }
+    ensures { λ r. ⌜ r ≡ bodyFault messageFormat (now (b .entry)) ⌝ }
 {
     let early = fields::all_zero(b, 14, 2);
     let late = fields::all_zero(b, 129, 3);
     let rates = tail_ok(get_tail(b));
     headers::first(
-        7,
-        headers::unit_ok(h.unit),
-        headers::first(
-            8,
-            early,
-            headers::first(8, late, headers::first(9, rates, 0)),
-        ),
+        8,
+        early,
+        headers::first(8, late, headers::first(9, rates, 0)),
     )
 }
 
@@ -97,7 +95,7 @@ pub fn get_message(o: &[u8]) -> Message
 
 fn put_synch(out: &mut [u8], at: usize, r: Message)
     requires { ⌜ at + 32 ≤ length (now out) ⌝ }
-    ensures { λ _. ⌜ Wrote at (synch r) (now (out .entry)) (now (out .exit)) ⌝ }
+    ensures { λ _. ⌜ Wrote at (bytesOf synchSlots r) (now (out .entry)) (now (out .exit)) ⌝ }
 {
     put_bus(out, at, r.start, r.baud, r.channel);
     fields::put64(out, at + 16, r.breaking);
@@ -106,7 +104,7 @@ fn put_synch(out: &mut [u8], at: usize, r: Message)
 
 fn put_descriptor(out: &mut [u8], at: usize, r: Message)
     requires { ⌜ at + 8 ≤ length (now out) ⌝ }
-    ensures { λ _. ⌜ Wrote at (descriptor r) (now (out .entry)) (now (out .exit)) ⌝ }
+    ensures { λ _. ⌜ Wrote at (bytesOf descriptorSlots r) (now (out .entry)) (now (out .exit)) ⌝ }
 {
     fields::put16(out, at, r.supplier);
     fields::put16(out, at + 2, r.message);
@@ -118,7 +116,7 @@ fn put_descriptor(out: &mut [u8], at: usize, r: Message)
 
 fn put_status(out: &mut [u8], at: usize, r: Message)
     requires { ⌜ at + 7 ≤ length (now out) ⌝ }
-    ensures { λ _. ⌜ Wrote at (status r) (now (out .entry)) (now (out .exit)) ⌝ }
+    ensures { λ _. ⌜ Wrote at (bytesOf statusSlots r) (now (out .entry)) (now (out .exit)) ⌝ }
 {
     fields::put16(out, at, r.checksum);
     fields::put8(out, at + 2, r.direction);
@@ -130,7 +128,7 @@ fn put_status(out: &mut [u8], at: usize, r: Message)
 
 fn put_machines(out: &mut [u8], at: usize, r: Message)
     requires { ⌜ at + 5 ≤ length (now out) ⌝ }
-    ensures { λ _. ⌜ Wrote at (machines r) (now (out .entry)) (now (out .exit)) ⌝ }
+    ensures { λ _. ⌜ Wrote at (bytesOf machineSlots r) (now (out .entry)) (now (out .exit)) ⌝ }
 {
     fields::put8(out, at, r.machine);
     fields::put8(out, at + 1, r.state);
@@ -140,7 +138,7 @@ fn put_machines(out: &mut [u8], at: usize, r: Message)
 // The body of a message, written at a place; its tail is one that `tail_ok` lets through.
 pub fn put_message(out: &mut [u8], at: usize, r: Message)
     requires { ⌜ (at + 132 + length (tail (r .tail)) ≤ length (now out)) × (tailOk (r .tail) ≡ true) ⌝ }
-    ensures { λ _. ⌜ Wrote at (message r) (now (out .entry)) (now (out .exit)) ⌝ }
+    ensures { λ _. ⌜ Wrote at (bytesOf messageSlots r) (now (out .entry)) (now (out .exit)) ⌝ }
 {
     let stamps = r.stamps;
     let bytes = r.bytes;

@@ -4,9 +4,11 @@ ghost use mathlib.Core.Path.{_≡_};
 ghost use Prim.Native.Nat.{_+_, _≤_};
 ghost use lib.ListN.{length};
 ghost use Rattle.fields.specs.Written.{Wrote};
+ghost use Rattle.fields.specs.Slots.{bytesOf};
 ghost use Rattle.headers.specs.Format.{headerOf, bodyOf};
-ghost use Rattle.lin.specs.WakeUp.{wakeUp, wakeUpFault};
-ghost use Rattle.lin.specs.Fields.{wakeUpOf};
+ghost use Rattle.headers.specs.Form.{bodyFault};
+ghost use Rattle.lin.specs.Tables.{wakeUpSlots};
+ghost use Rattle.lin.specs.Fields.{wakeUpOf, wakeUpFormat};
 
 pub struct WakeUp {
     pub header: headers::Header,
@@ -18,18 +20,14 @@ pub struct WakeUp {
     pub external: u8,
 }
 
-// What refuses a wake-up: 7, 8, or 0 for nothing.
-pub fn wake_up_fault(h: headers::Header, b: &[u8]) -> u32
+// What refuses the body of a wake-up: 8, or 0 for nothing.
+pub fn wake_up_fault(b: &[u8]) -> u32
     requires { ⌜ 20 ≤ length (now b) ⌝ }
-    ensures { λ r. ⌜ r ≡ wakeUpFault h (now (b .entry)) ⌝ }
+    ensures { λ r. ⌜ r ≡ bodyFault wakeUpFormat (now (b .entry)) ⌝ }
 {
     let early = fields::all_zero(b, 14, 2);
     let late = fields::all_zero(b, 19, 1);
-    headers::first(
-        7,
-        headers::unit_ok(h.unit),
-        headers::first(8, early, headers::first(8, late, 0)),
-    )
+    headers::first(8, early, headers::first(8, late, 0))
 }
 
 // The wake-up that an object is.
@@ -52,7 +50,7 @@ pub fn get_wake_up(o: &[u8]) -> WakeUp
 // The body of a wake-up, written at a place.
 pub fn put_wake_up(out: &mut [u8], at: usize, r: WakeUp)
     requires { ⌜ at + 20 ≤ length (now out) ⌝ }
-    ensures { λ _. ⌜ Wrote at (wakeUp r) (now (out .entry)) (now (out .exit)) ⌝ }
+    ensures { λ _. ⌜ Wrote at (bytesOf wakeUpSlots r) (now (out .entry)) (now (out .exit)) ⌝ }
 {
     put_bus(out, at, r.start, r.baud, r.channel);
     fields::put8(out, at + 16, r.info);

@@ -7,16 +7,22 @@ use mathlib.Core.List.{List, []}
 use native.Mathlib.Omega.{arith}
 use lib.ListN.{length, getD, length-replicate}
 use Rattle.fields.specs.Numbers.{val, num, nums, allZero, zeros}
-use Rattle.fields.specs.Digits.{le}
+use Rattle.fields.specs.Digits.{le, array}
+use Rattle.fields.specs.Slots as slots
 use Rattle.headers.specs.Format.{padding, headerOf, unitOk}
 use Rattle.headers.specs.Types.{Kind, canMessage, overload, statistic, receive, linMessage, wakeUp, ethernetStatus, frame, forwardedFrame, ethernetError, forwardedError, typeList, sizesIn}
 use Rattle.headers.specs.Rows.{rowIn, allowed}
 use Rattle.headers.specs.Header as header
 use Rattle.headers.specs.HeadTests.{first, headerFits}
 use Rattle.can.specs.Fields as can
+use Rattle.can.specs.Tables as can-table
 use Rattle.flexray.specs.Fields as flexray
+use Rattle.flexray.specs.Tables as flexray-table
 use Rattle.lin.specs.Fields as lin
+use Rattle.lin.specs.Tail as lin-tail
+use Rattle.lin.specs.Tables as lin-table
 use Rattle.ethernet.specs.Fields as ethernet
+use Rattle.ethernet.specs.Tables as ethernet-table
 use Rattle.objects.specs.declared.Walked.the-variants as walked
 use Rattle.objects.specs.Kinds.{Record, layoutOf, find}
 use Rattle.objects.specs.Items.{known, bytesOf, padded}
@@ -35,38 +41,25 @@ use Rattle.wrong_programs.specs.Wrong.{walk, read, write, Meets}
 abbrev clientAt : (k : Kind) → Record k → ℕ
 clientAt k r = layoutOf k .header r .client
 
-client-0 : (k : Kind) → clientAt k (recordAt k (byClient k 0) 0) ≡ 0
-unfolding byClient hex nextAt answered faultOf find headerOf unitOk typeList sizesIn rowIn allowed headerFits first padding num val nums le allZero lookAt recordIn recordAt header.object header.header header.head can.messageOf can.overloadOf can.statisticOf flexray.receiveOf flexray.countsOk lin.tailOf lin.messageOf lin.wakeUpOf ethernet.statusOf ethernet.frameOf ethernet.errorOf
-client-0 canMessage = refl
-client-0 overload = refl
-client-0 statistic = refl
-client-0 receive = refl
-client-0 linMessage = refl
-client-0 wakeUp = refl
-client-0 ethernetStatus = refl
-client-0 frame = refl
-client-0 forwardedFrame = refl
-client-0 ethernetError = refl
-client-0 forwardedError = refl
-
-client-1 : (k : Kind) → clientAt k (recordAt k (byClient k 1) 0) ≡ 1
-unfolding byClient hex nextAt answered faultOf find headerOf unitOk typeList sizesIn rowIn allowed headerFits first padding num val nums le allZero lookAt recordIn recordAt header.object header.header header.head can.messageOf can.overloadOf can.statisticOf flexray.receiveOf flexray.countsOk lin.tailOf lin.messageOf lin.wakeUpOf ethernet.statusOf ethernet.frameOf ethernet.errorOf
-client-1 canMessage = refl
-client-1 overload = refl
-client-1 statistic = refl
-client-1 receive = refl
-client-1 linMessage = refl
-client-1 wakeUp = refl
-client-1 ethernetStatus = refl
-client-1 frame = refl
-client-1 forwardedFrame = refl
-client-1 ethernetError = refl
-client-1 forwardedError = refl
+-- the client index that is read is the sample's
+client : (k : Kind) → (clientAt k (recordAt k (byClient k 0) 0) ≡ 0) × (clientAt k (recordAt k (byClient k 1) 0) ≡ 1)
+unfolding byClient hex nextAt answered faultOf find headerOf unitOk typeList sizesIn rowIn allowed headerFits first padding num val nums le array allZero slots.bytesOf lookAt recordIn recordAt header.object header.header header.head can.messageOf can.overloadOf can.statisticOf can-table.messageSlots can-table.overloadSlots can-table.statisticSlots can-table.counterSlots flexray.receiveOf flexray.countsOk flexray-table.receiveSlots flexray-table.originSlots flexray-table.slotSlots flexray-table.controllerSlots lin.tailOf lin.messageOf lin.wakeUpOf lin-tail.tail lin-table.messageSlots lin-table.synchSlots lin-table.busSlots lin-table.descriptorSlots lin-table.statusSlots lin-table.machineSlots lin-table.wakeUpSlots ethernet.statusOf ethernet.frameOf ethernet.errorOf ethernet-table.statusSlots ethernet-table.eightSlots ethernet-table.frameSlots ethernet-table.errorSlots ethernet-table.eventSlots ethernet-table.originSlots ethernet-table.transmissionSlots
+client canMessage = (refl, refl)
+client overload = (refl, refl)
+client statistic = (refl, refl)
+client receive = (refl, refl)
+client linMessage = (refl, refl)
+client wakeUp = (refl, refl)
+client ethernetStatus = (refl, refl)
+client frame = (refl, refl)
+client forwardedFrame = (refl, refl)
+client ethernetError = (refl, refl)
+client forwardedError = (refl, refl)
 
 pub no-constant-record : (k : Kind) (r : Record k) → Meets (read k (clientAt k) (constant k r) (byClient k 0) 0) → Meets (read k (clientAt k) (constant k r) (byClient k 1) 0) → ⊥
 no-constant-record k r a b =
-    let e : clientAt k r ≡ 0 = ap (clientAt k) (a .value) ∙ client-0 k in
-    let f : clientAt k r ≡ 1 = ap (clientAt k) (b .value) ∙ client-1 k in
+    let e : clientAt k r ≡ 0 = ap (clientAt k) (a .value) ∙ client k .0 in
+    let f : clientAt k r ≡ 1 = ap (clientAt k) (b .value) ∙ client k .1 in
     omega arith
 
 count-0 : walkOf [] ≡ walked.Count 0

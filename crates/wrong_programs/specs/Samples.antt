@@ -1,10 +1,12 @@
 -- Logs and bundles that the wrong programs are tried on, beside document 01's M2, M9 and M11.
 use Prim.Native.Nat.{ℕ}
-use mathlib.Core.List.{List, _++_}
+use mathlib.Core.List.{List, [], _++_}
 use Rattle.fields.specs.Numbers.{zeros}
 use Rattle.headers.specs.Format.{padded}
 use Rattle.headers.specs.Header.{object}
-use Rattle.headers.specs.Types.{Kind, canMessage, overload, statistic, receive, linMessage, wakeUp, ethernetStatus, frame, forwardedFrame, ethernetError, forwardedError, numberOf}
+use Rattle.headers.specs.Types.{Kind, numberOf}
+use Rattle.objects.specs.Kinds.{layoutOf}
+use Rattle.outcomes.specs.Reads.{recordIn}
 use Rattle.marked_examples.specs.Hex.{hex}
 use Rattle.marked_examples.specs.Marked.{m11}
 
@@ -23,23 +25,9 @@ wrapping = hex "4C4F424A 1000 0000 F0FFFFFF 0F270000"
 unfoldable pub lin168 : List ℕ
 lin168 = hex "4C4F424A 2000 0100 A8000000 39000000 01000000" ++ zeros 148
 
--- an object of each type whose client index is this: the least of its sizes, unit 1, zeros else but an Ethernet event's
--- structure length
-abbrev pub leastBody : Kind → List ℕ
-leastBody canMessage = zeros 16
-leastBody overload = zeros 4
-leastBody statistic = zeros 28
-leastBody receive = zeros 298
-leastBody linMessage = zeros 132
-leastBody wakeUp = zeros 20
-leastBody ethernetStatus = zeros 16
-leastBody frame = hex "2000" ++ zeros 30
-leastBody forwardedFrame = hex "2000" ++ zeros 30
-leastBody ethernetError = hex "2000" ++ zeros 30
-leastBody forwardedError = hex "2000" ++ zeros 30
-
+-- an object of each type whose client index is this: unit 1, and the body of the record of zeros
 unfoldable pub byClient : Kind → ℕ → List ℕ
-byClient k client = padded (object (numberOf k) (record { unit = 1; client = client; version = 0; stamp = 0 }) (leastBody k))
+byClient k client = padded (object (numberOf k) (record { unit = 1; client = client; version = 0; stamp = 0 }) (layoutOf k .body (recordIn k [])))
 
 -- M12: M11 and then desk 2 with the second entry alone
 unfoldable pub m12 : List ℕ

@@ -1,20 +1,19 @@
 -- `ethernet::put_event` meets its contract: its four parts, one behind the other. Assumes nothing.
-use mathlib.Core.Path.{refl}
 use borrow.Author.Needs.{needs}
-use Rattle.fields.specs.Digits.{le}
-use Rattle.fields.proofs.Writing.{then}
-use Rattle.ethernet.specs.Event.{origin, transmission, event}
+use Rattle.fields.proofs.Puts.{put, chunk, last, first-chunk, written}
+use Rattle.ethernet.specs.Tables.{originSlots, transmissionSlots, eventSlots}
 use Rattle.ethernet.proofs.event.put_event.Statement.{statement}
 use Rattle.ethernet.proofs.event.put_event.Tie as tie
 
 returns : tie.Need-returns
-unfolding event origin transmission le
+unfolding eventSlots originSlots transmissionSlots
 returns c =
     let p4 = c .before .before in
     let p3 = p4 .before .before .before .before in
     let p2 = p3 .before .before .before .before in
     let p1 = p2 .before .before .before .before in
-    then (then (then (p1 .put-origin .ensures) (p2 .put-transmission .ensures) refl) (p3 .put32 .ensures) refl) (p4 .put-bytes .ensures) refl
+    written (first-chunk (originSlots (λ f. f)) tt (p1 .put-origin .ensures)
+    (chunk (transmissionSlots (λ f. f) _) tt (p2 .put-transmission .ensures) (put (p3 .put32 .ensures) (last (p4 .put-bytes .ensures)))))
 
 pub put-event-spec : {M : Type 1} → statement M
 put-event-spec =

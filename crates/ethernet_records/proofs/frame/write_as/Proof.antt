@@ -8,7 +8,7 @@ use lib.ListN.{length}
 use borrow.Author.Needs.{needs}
 use borrow.Author.Tests.{leb-true}
 use Rattle.ethernet.specs.Fields.{longestFrame}
-use Rattle.ethernet.specs.Frame.{ValidFrame}
+use Rattle.ethernet.proofs.KnownLaws.{frame-known}
 use Rattle.headers.specs.Types.{frame, forwardedFrame}
 use Rattle.outcomes.proofs.Writing.{taken, refuses, right, ends}
 use Rattle.ethernet_records.specs.Framed.{framed}
@@ -46,9 +46,8 @@ returns-2 c =
     let b = c .before .before .before .before .before .before .before .before .before .before .before .begin .ensures in
     let m = c .before .before .before .before .before .before .before .before .if1 .left in
     let e = c .before .before .before .before .before .before .before .before .before .before .before .before .before .frame-size .ensures in
-    let short : length (s .args .lent .now) ≤ longestFrame = leb-true _ _ (⊎-elim (λ q. right frame r b q refl e m) (λ q. right forwardedFrame r b q refl e m) (s .pre)) in
-    let g = s .good .1 .0 .1 .1 in
-    let v : ValidFrame (r .value) (r .bytes) = search (needs, g, taken (b .number) m .unit, short) in
+    let short = ⊎-elim (λ q. right frame r b q refl e m) (λ q. right forwardedFrame r b q refl e m) (s .pre) in
+    let v = frame-known (s .args .r) (s .good .1 .0) (taken (b .number) m .unit) (s .args .lent .now) short in
     let p = c .before .before .before .before .before .before .put-frame .ensures in
     let d = c .before .before .pad .ensures in
     (λ q. ends frame r b q refl e m v p d, λ q. ends forwardedFrame r b q refl e m v p d)

@@ -8,7 +8,7 @@ use lib.ListN.{length}
 use borrow.Author.Needs.{needs}
 use borrow.Author.Tests.{leb-true}
 use Rattle.ethernet.specs.Fields.{longestFrame}
-use Rattle.ethernet.specs.FrameError.{ValidError}
+use Rattle.ethernet.proofs.KnownLaws.{error-known}
 use Rattle.headers.specs.Types.{ethernetError, forwardedError}
 use Rattle.outcomes.proofs.Writing.{taken, refuses, right, ends}
 use Rattle.ethernet_records.specs.Framed.{framed}
@@ -46,9 +46,8 @@ returns-2 c =
     let b = c .before .before .before .before .before .before .before .before .before .before .before .begin .ensures in
     let m = c .before .before .before .before .before .before .before .before .if1 .left in
     let e = c .before .before .before .before .before .before .before .before .before .before .before .before .before .frame-size .ensures in
-    let short : length (s .args .lent .now) ≤ longestFrame = leb-true _ _ (⊎-elim (λ q. right ethernetError r b q refl e m) (λ q. right forwardedError r b q refl e m) (s .pre)) in
-    let g = s .good .1 .0 .1 .1 in
-    let v : ValidError (r .value) (r .bytes) = record { frame = search (needs, g .0 .1 .1, taken (b .number) m .unit, short); code = g .1 .0 .1 } in
+    let short = ⊎-elim (λ q. right ethernetError r b q refl e m) (λ q. right forwardedError r b q refl e m) (s .pre) in
+    let v = error-known (s .args .e) (s .good .1 .0) (taken (b .number) m .unit) (s .args .lent .now) short in
     let p = c .before .before .before .before .before .before .put-error .ensures in
     let d = c .before .before .pad .ensures in
     (λ q. ends ethernetError r b q refl e m v p d, λ q. ends forwardedError r b q refl e m v p d)

@@ -1,14 +1,13 @@
 -- `flexray::put_slot` meets its contract: one field behind the other. Assumes nothing.
-use native.Mathlib.Nat.{add-assoc}
 use borrow.Author.Needs.{needs}
-use Rattle.fields.specs.Digits.{le}
-use Rattle.fields.proofs.Writing.{then}
-use Rattle.flexray.specs.Receive.{slot}
+use Rattle.fields.proofs.Puts.{done, put, puts}
+use Rattle.flexray.specs.Tables.{slotSlots}
 use Rattle.flexray.proofs.receive.put_slot.Statement.{statement}
 use Rattle.flexray.proofs.receive.put_slot.Tie as tie
 
+-- with r given, a wrong write is refused at its own place
 returns : tie.Need-returns
-unfolding slot le
+unfolding slotSlots
 returns c =
     let p7 = c .before .before in
     let p6 = p7 .before .before .before .before in
@@ -17,7 +16,7 @@ returns c =
     let p3 = p4 .before .before .before .before in
     let p2 = p3 .before .before .before .before in
     let p1 = p2 .before .before .before .before in
-    then (then (then (then (then (then (p1 .put16 .ensures) (p2 .put162 .ensures) (add-assoc _ _ _)) (p3 .put163 .ensures) (add-assoc _ _ _)) (p4 .put164 .ensures) (add-assoc _ _ _)) (p5 .put165 .ensures) (add-assoc _ _ _)) (p6 .put8 .ensures) (add-assoc _ _ _)) (p7 .put-zeros .ensures) (add-assoc _ _ _)
+    puts {r = p1 .before .before .before .args .r} (put (p1 .put16 .ensures) (put (p2 .put162 .ensures) (put (p3 .put163 .ensures) (put (p4 .put164 .ensures) (put (p5 .put165 .ensures) (put (p6 .put8 .ensures) (put (p7 .put-zeros .ensures) done)))))))
 
 pub put-slot-spec : {M : Type 1} → statement M
 put-slot-spec =

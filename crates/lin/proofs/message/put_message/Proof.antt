@@ -1,15 +1,12 @@
 -- `lin::put_message` meets its contract: one part behind the other. Assumes nothing.
-use mathlib.Core.Path.{refl}
 use borrow.Author.Needs.{needs}
-use Rattle.fields.specs.Digits.{le, array}
-use Rattle.fields.proofs.Writing.{then}
-use Rattle.lin.specs.Bus.{bus}
-use Rattle.lin.specs.Message.{synch, descriptor, status, machines, message}
+use Rattle.fields.proofs.Puts.{put, chunk, first-chunk, last, written}
+use Rattle.lin.specs.Tables.{busSlots, synchSlots, descriptorSlots, statusSlots, machineSlots, messageSlots}
 use Rattle.lin.proofs.message.put_message.Statement.{statement}
 use Rattle.lin.proofs.message.put_message.Tie as tie
 
 returns : tie.Need-returns
-unfolding message synch bus descriptor array status machines le
+unfolding busSlots synchSlots descriptorSlots statusSlots machineSlots messageSlots
 returns c =
     let p7 = c .before .before in
     let p6 = p7 .before .before .before .before in
@@ -18,7 +15,7 @@ returns c =
     let p3 = p4 .before .before .before .before in
     let p2 = p3 .before .before .before .before in
     let p1 = p2 .before .before .before .before in
-    then (then (then (then (then (then (p1 .put-synch .ensures) (p2 .put-descriptor .ensures) refl) (p3 .put64x9 .ensures) refl) (p4 .put8x8 .ensures) refl) (p5 .put-status .ensures) refl) (p6 .put-machines .ensures) refl) (p7 .put-tail .ensures) refl
+    written (first-chunk synchSlots tt (p1 .put-synch .ensures) (chunk descriptorSlots tt (p2 .put-descriptor .ensures) (put (p3 .put64x9 .ensures) (put (p4 .put8x8 .ensures) (chunk statusSlots tt (p5 .put-status .ensures) (chunk machineSlots tt (p6 .put-machines .ensures) (last (p7 .put-tail .ensures))))))))
 
 pub put-message-spec : {M : Type 1} → statement M
 put-message-spec =

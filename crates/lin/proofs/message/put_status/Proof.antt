@@ -1,14 +1,12 @@
 -- `lin::put_status` meets its contract: one field behind the other. Assumes nothing.
-use mathlib.Core.Path.{refl}
 use borrow.Author.Needs.{needs}
-use Rattle.fields.specs.Digits.{le}
-use Rattle.fields.proofs.Writing.{then}
-use Rattle.lin.specs.Message.{status}
+use Rattle.fields.proofs.Puts.{done, put, first, written}
+use Rattle.lin.specs.Tables.{statusSlots}
 use Rattle.lin.proofs.message.put_status.Statement.{statement}
 use Rattle.lin.proofs.message.put_status.Tie as tie
 
 returns : tie.Need-returns
-unfolding status le
+unfolding statusSlots
 returns c =
     let p6 = c .before .before in
     let p5 = p6 .before .before .before .before in
@@ -16,7 +14,7 @@ returns c =
     let p3 = p4 .before .before .before .before in
     let p2 = p3 .before .before .before .before in
     let p1 = p2 .before .before .before .before in
-    then (then (then (then (then (p1 .put16 .ensures) (p2 .put8 .ensures) refl) (p3 .put82 .ensures) refl) (p4 .put83 .ensures) refl) (p5 .put84 .ensures) refl) (p6 .put85 .ensures) refl
+    written (first (p1 .put16 .ensures) (put (p2 .put8 .ensures) (put (p3 .put82 .ensures) (put (p4 .put83 .ensures) (put (p5 .put84 .ensures) (put (p6 .put85 .ensures) done))))))
 
 pub put-status-spec : {M : Type 1} → statement M
 put-status-spec =

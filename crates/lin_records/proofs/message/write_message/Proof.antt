@@ -1,13 +1,14 @@
 -- `lin_records::write_message` meets its contract: refused, or header, body and padding; what is not refused is valid.
 -- Assumes nothing.
 use mathlib.Core.Path.{_≡_, refl, sym, _∙_}
+use mathlib.Core.Bool.{and-true}
 use Prim.Native.Nat.{_+_, _≤_}
 use native.Mathlib.Omega.{arith}
 use borrow.Author.Needs.{needs}
+use Rattle.lin.specs.Tail.{endSize}
+use Rattle.lin.proofs.TailLaws.{end-size}
 use Rattle.lin.proofs.KnownLaws.{message-known}
 use Rattle.headers.specs.Types.{linMessage}
-use Rattle.outcomes.specs.Tested.{endSize}
-use Rattle.outcomes.proofs.Sizes.{end-size}
 use Rattle.outcomes.proofs.Writing.{taken, refuses, ends}
 use Rattle.lin_records.proofs.TailFits.{tail-short}
 use Rattle.lin_records.proofs.message.write_message.Statement.{statement}
@@ -27,7 +28,7 @@ returns : tie.Need-returns
 returns c =
     let r = c .before .before .before .before .before .before .before .before .before .args .r in
     let e : 164 + c .before .before .before .before .before .before .tail-length .result ≡ endSize (r .tail) = omega (arith, end-size (r .tail), c .before .before .before .before .before .before .tail-length .ensures) in
-    refuses linMessage r (c .before .before .before .begin .ensures) refl (c .before .before .before .before .before .tail-ok .ensures) e (c .if1 .taken)
+    refuses linMessage r (c .before .before .before .begin .ensures) refl (c .before .before .before .before .before .tail-ok .ensures ∙ sym (and-true _)) e (c .if1 .taken)
 
 put-message-requires : tie.Need-put-message-requires
 put-message-requires c κs =
@@ -46,7 +47,7 @@ returns-2 c =
     let k = c .before .before .before .before .before .before .before .before .before .before .before .before .before .tail-ok .ensures in
     let e : 164 + c .before .before .before .before .before .before .before .before .before .before .before .before .before .before .tail-length .result ≡ endSize (r .tail) = omega (arith, end-size (r .tail), c .before .before .before .before .before .before .before .before .before .before .before .before .before .before .tail-length .ensures) in
     let v = message-known r (s .good .0) (taken (b .number) m .unit) (sym k ∙ taken (b .number) m .content) in
-    ends linMessage r b refl k e m v (c .before .before .before .before .before .before .put-message .ensures) (c .before .before .pad .ensures)
+    ends linMessage r b refl (k ∙ sym (and-true _)) e m v (c .before .before .before .before .before .before .put-message .ensures) (c .before .before .pad .ensures)
 
 pub write-message-spec : {M : Type 1} → statement M
 write-message-spec =
