@@ -1,6 +1,7 @@
 -- The sizes of a type whose objects hold a frame, which are 64 + n bytes. Assumes nothing.
 use mathlib.Core.Path.{_≡_, refl, _∙_}
 use mathlib.Core.Bool.{Bool, true, false, _&&_}
+use mathlib.Mathlib.Data.Bool.Basic.{eq-false-of-not-eq-true}
 use mathlib.Core.List.{List}
 use mathlib.Core.Logic.{_↔_}
 use Prim.Native.Nat.{ℕ, _+_, _≤_}
@@ -17,10 +18,6 @@ use Rattle.headers.proofs.TypeKinds.{own-sizes}
 use Rattle.ethernet.specs.Fields.{structureLength, longestFrame}
 use Rattle.ethernet.specs.Tables.{frameSize}
 
-no : (b : Bool) → (b ≡ true → ⊥) → b ≡ false
-no true h = absurd (h refl)
-no false h = refl
-
 module _ (k : Kind) (e : typeOf k .sizes ≡ upTo 64 longestFrame) where
   has : (n : ℕ) → (allowed (rowOf (numberOf k)) n ≡ true) ↔ Has (upTo 64 longestFrame) n
   has n = rw (own-sizes k ∙ e) at (types-exact (numberOf k) n)
@@ -35,4 +32,4 @@ module _ (k : Kind) (e : typeOf k .sizes ≡ upTo 64 longestFrame) where
     where
       pick : (b : Bool) → leb n longestFrame ≡ b → (allowed (rowOf (numberOf k)) (frameSize n) && true) ≡ b
       pick true q = rw (has (frameSize n) .1 (omega arith, omega (arith, leb-true n longestFrame q)))
-      pick false q = rw (no (allowed (rowOf (numberOf k)) (frameSize n)) (λ t. omega (arith, leb-false n longestFrame q, has (frameSize n) .0 t .1)))
+      pick false q = rw (eq-false-of-not-eq-true {b = allowed (rowOf (numberOf k)) (frameSize n)} (λ t. omega (arith, leb-false n longestFrame q, has (frameSize n) .0 t .1)))

@@ -1,6 +1,6 @@
 -- The laws of every table of slots: what is written is read, and what was read is written. Assumes nothing.
 use mathlib.Core.Path.{_≡_, refl, sym, ap, ap₂, _∙_}
-use mathlib.Core.Bool.{Bool, true, false, _&&_}
+use mathlib.Core.Bool.{Bool, true, _&&_, and-assoc}
 use mathlib.Core.Logic.{_↔_}
 use mathlib.Core.List.{List, [], _∷_, _++_, append-assoc, append-nil}
 use Prim.Native.Nat.{ℕ, _+_, _*_, _≤_}
@@ -106,11 +106,7 @@ module _ {A : Type 0} where
 -- rules behind rules
 pub right-append : (xs ys : List Rule) → allRight (xs ++ ys) ≡ (allRight xs && allRight ys)
 right-append [] ys = refl
-right-append (x ∷ xs) ys = pick (x .right) (right-append xs ys)
-  where
-    pick : (a : Bool) → allRight (xs ++ ys) ≡ (allRight xs && allRight ys) → (a && allRight (xs ++ ys)) ≡ ((a && allRight xs) && allRight ys)
-    pick true i = i
-    pick false i = refl
+right-append (x ∷ xs) ys = ap (λ (b : Bool). x .right && b) (right-append xs ys) ∙ sym (and-assoc (x .right) (allRight xs) (allRight ys))
 
 -- the bytes are clean exactly where the gaps are blank and what follows from the rest is right
 module _ {A : Type 0} (b : List ℕ) (r : A) where

@@ -2,12 +2,10 @@
 -- message's rest, the laws of its tail. Assumes nothing.
 use mathlib.Core.Path.{_≡_, refl}
 use mathlib.Core.Bool.{true, _&&_, and-true}
-use Prim.Native.Nat.{min, _+_}
-use lib.ListN.{length, drop}
-use Rattle.fields.specs.Digits.{le}
+use native.Mathlib.Omega.{arith}
+use lib.ListN.{drop}
 use Rattle.fields.proofs.Zeros.{both-true}
 use Rattle.fields.proofs.Parts.{drop-bytes}
-use Rattle.headers.specs.Format.{headerLength}
 use Rattle.headers.specs.Types as kind
 use Rattle.headers.specs.Types.{typeList}
 use Rattle.headers.specs.Rows.{rowIn, rowOf, allowed}
@@ -17,9 +15,9 @@ use Rattle.headers.proofs.Forms.{lawful, plain}
 use Rattle.lin.specs.declared.tail.Tail.{Tail}
 use Rattle.lin.specs.declared.tail.Tail.the-variants.{Nothing, Response, Rates}
 use Rattle.lin.specs.Fields.{tailOf, rateOk, tailOk, messageOf, messageFormat, wakeUpOf, wakeUpFormat}
-use Rattle.lin.specs.Tail.{rates, tail, endSize}
+use Rattle.lin.specs.Tail.{endSize}
 use Rattle.lin.specs.Tables.{busSlots, synchSlots, descriptorSlots, statusSlots, machineSlots, messageSlots, messageForm, wakeUpSlots, wakeUpForm}
-use Rattle.lin.proofs.TailLaws.{tail-back, tail-forth, tail-fit}
+use Rattle.lin.proofs.TailLaws.{tail-short, end-size, tail-back, tail-forth, tail-fit}
 use Rattle.lin.proofs.SizeLaws.{message-length, long, ends}
 
 pub wake-up-laws : Lawful kind.wakeUp (layout wakeUpFormat wakeUpForm)
@@ -37,14 +35,7 @@ wake-up-laws =
     })
     (λ h b. refl) (λ h v. refl) (λ r. refl) (λ h v. refl) (λ r. tt)
 
--- the size by a message's end is its object's, and the type list has it
-
-end-real : (t : Tail) → endSize t ≡ min (headerLength + (132 + length (tail t))) 4294967295
-unfolding tail rates le
-end-real Nothing = refl
-end-real (Response response) = refl
-end-real (Rates response exact header-stop response-stop) = refl
-
+-- the type list has the size by a message's end
 tail-allowed : (t : Tail) → (allowed (rowOf 57) (endSize t) && (tailOk t && true)) ≡ tailOk t
 unfolding typeList rowIn allowed
 tail-allowed Nothing = refl
@@ -91,6 +82,6 @@ message-laws =
       kept = λ h b t. rw (tail-forth (drop 132 b) (drop-bytes 132 b (t .bytes)) (ends b (t .sized)) (both-true _ _ (t .right) .0));
       extra = λ h b t. tail-fit (drop 132 b) (drop-bytes 132 b (t .bytes)) (ends b (t .sized));
       fill = long;
-      size = λ r. rw (message-length r) (end-real (r .tail));
+      size = λ r. omega (arith, message-length r, end-size (r .tail), tail-short (r .tail));
       content = λ r. tail-allowed (r .tail);
     })

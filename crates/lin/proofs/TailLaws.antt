@@ -48,6 +48,9 @@ end-size Nothing = refl
 end-size (Response response) = refl
 end-size (Rates response exact header-stop response-stop) = refl
 
+pub tail-short : (t : Tail) → length (tail t) ≤ 20
+tail-short t = ⊎-elim (λ w. omega arith) (λ u. ⊎-elim (λ w. omega arith) (λ w. omega arith) u) (tail-ends t)
+
 -- what holds of each way to end holds of the tail that bytes are
 pub by-length : (t : List ℕ) (P : Tail → Type 0) → Ends t → (length t ≡ 0 → P Nothing) → (length t ≡ 4 → P (Response (num 4 t 0)))
     → (length t ≡ 20 → P (Rates (num 4 t 0) (ofBits binary64 (num 8 t 4)) (num 4 t 12) (num 4 t 16))) → P (tailOf t)

@@ -1,2 +1,1 @@
-pub mod TailFits
 pub mod Exact

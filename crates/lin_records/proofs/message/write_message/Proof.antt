@@ -6,11 +6,10 @@ use Prim.Native.Nat.{_+_, _≤_}
 use native.Mathlib.Omega.{arith}
 use borrow.Author.Needs.{needs}
 use Rattle.lin.specs.Tail.{endSize}
-use Rattle.lin.proofs.TailLaws.{end-size}
+use Rattle.lin.proofs.TailLaws.{tail-short, end-size}
 use Rattle.lin.proofs.KnownLaws.{message-known}
 use Rattle.headers.specs.Types.{linMessage}
 use Rattle.outcomes.proofs.Writing.{taken, refuses, ends}
-use Rattle.lin_records.proofs.TailFits.{tail-short}
 use Rattle.lin_records.proofs.message.write_message.Statement.{statement}
 use Rattle.lin_records.proofs.message.write_message.Tie as tie
 
