@@ -1,33 +1,37 @@
--- The laws of the CAN records: what the slots of each hold is its record, and gaps and rules are the slots'. Assumes
--- nothing.
-use mathlib.Core.Path.{refl}
+-- The laws of the CAN records: what the slots of each hold is its record, and gaps and rules are the slots'; and how
+-- long their bodies are. Assumes nothing.
+use mathlib.Core.Path.{_≡_, refl}
+use lib.ListN.{length}
+use Rattle.fields.specs.Slots.{bytesOf}
+use Rattle.fields.proofs.Puts.{bytes-length}
 use Rattle.headers.specs.Types as kind
-use Rattle.headers.specs.Types.{typeList}
-use Rattle.headers.specs.Rows.{rowIn, allowed}
 use Rattle.headers.specs.Layout.{Lawful}
 use Rattle.headers.specs.Form.{layout}
 use Rattle.headers.proofs.Forms.{plain}
+use Rattle.can.specs.declared.message.Message.{Message}
+use Rattle.can.specs.declared.overload.Overload.{Overload}
+use Rattle.can.specs.declared.statistic.Statistic.{Statistic}
 use Rattle.can.specs.Fields.{messageOf, messageFormat, overloadOf, overloadFormat, statisticOf, statisticFormat}
 use Rattle.can.specs.Tables.{messageSlots, messageForm, overloadSlots, overloadForm, counterSlots, statisticSlots, statisticForm}
 
 pub message-laws : Lawful kind.canMessage (layout messageFormat messageForm)
-unfolding typeList rowIn allowed messageOf messageSlots
+unfolding messageOf messageSlots
 message-laws =
-    plain kind.canMessage messageFormat messageForm tt refl (λ r. refl) (λ r. refl) refl (λ h b. refl)
+    plain kind.canMessage messageFormat messageForm tt refl (λ r. refl) refl (λ h b. refl)
     (λ h v. record { header = h; channel = v .0; flags = v .1 .0; dlc = v .1 .1 .0; id = v .1 .1 .1 .0; bytes = v .1 .1 .1 .1 .0 })
     (λ h b. refl) (λ h v. refl) (λ r. refl) (λ h v. refl) (λ r. tt)
 
 pub overload-laws : Lawful kind.overload (layout overloadFormat overloadForm)
-unfolding typeList rowIn allowed overloadOf overloadSlots
+unfolding overloadOf overloadSlots
 overload-laws =
-    plain kind.overload overloadFormat overloadForm tt refl (λ r. refl) (λ r. refl) refl (λ h b. refl)
+    plain kind.overload overloadFormat overloadForm tt refl (λ r. refl) refl (λ h b. refl)
     (λ h v. record { header = h; channel = v .0 })
     (λ h b. refl) (λ h v. refl) (λ r. refl) (λ h v. refl) (λ r. tt)
 
 pub statistic-laws : Lawful kind.statistic (layout statisticFormat statisticForm)
-unfolding typeList rowIn allowed statisticOf statisticSlots counterSlots
+unfolding statisticOf statisticSlots counterSlots
 statistic-laws =
-    plain kind.statistic statisticFormat statisticForm tt refl (λ r. refl) (λ r. refl) refl (λ h b. refl)
+    plain kind.statistic statisticFormat statisticForm tt refl (λ r. refl) refl (λ h b. refl)
     (λ h v. let c = v .1 .1 in record {
       header = h;
       channel = v .0;
@@ -40,3 +44,15 @@ statistic-laws =
       overloads = c .1 .1 .1 .1 .1 .0;
     })
     (λ h b. refl) (λ h v. refl) (λ r. refl) (λ h v. refl) (λ r. tt)
+
+pub message-length : (r : Message) → length (bytesOf messageSlots r) ≡ 16
+unfolding messageSlots
+message-length r = bytes-length r messageSlots tt
+
+pub overload-length : (r : Overload) → length (bytesOf overloadSlots r) ≡ 4
+unfolding overloadSlots
+overload-length r = bytes-length r overloadSlots tt
+
+pub statistic-length : (r : Statistic) → length (bytesOf statisticSlots r) ≡ 28
+unfolding statisticSlots counterSlots
+statistic-length r = bytes-length r statisticSlots tt

@@ -1,6 +1,6 @@
 -- The slots of the CAN records, row by row of 01: what Fields reads, the other way round.
 use Rattle.fields.specs.Slots.{Slots, number, numbers, reserved, end, _▸_}
-use Rattle.headers.specs.Form.{Form, fixed}
+use Rattle.headers.specs.Form.{Form, ruleless}
 use Rattle.can.specs.declared.message.Message.{Message}
 use Rattle.can.specs.declared.overload.Overload.{Overload}
 use Rattle.can.specs.declared.statistic.Statistic.{Statistic}
@@ -15,7 +15,7 @@ messageSlots =
     ▸ end
 
 abbrev pub messageForm : Form Message
-messageForm = fixed 48 messageSlots
+messageForm = ruleless messageSlots
 
 unfoldable pub overloadSlots : Slots Overload
 overloadSlots =
@@ -24,7 +24,7 @@ overloadSlots =
     ▸ end
 
 abbrev pub overloadForm : Form Overload
-overloadForm = fixed 36 overloadSlots
+overloadForm = ruleless overloadSlots
 
 -- the six counters of frames
 unfoldable pub counterSlots : Slots Statistic
@@ -44,4 +44,4 @@ statisticSlots =
     ▸ counterSlots
 
 abbrev pub statisticForm : Form Statistic
-statisticForm = fixed 60 statisticSlots
+statisticForm = ruleless statisticSlots

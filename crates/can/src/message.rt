@@ -4,7 +4,6 @@ ghost use Prim.Native.Nat.{_+_, _≤_};
 ghost use lib.ListN.{length};
 ghost use Rattle.fields.specs.Written.{Wrote};
 ghost use Rattle.fields.specs.Slots.{bytesOf};
-ghost use Rattle.headers.specs.Format.{headerOf, bodyOf};
 ghost use Rattle.can.specs.Tables.{messageSlots};
 ghost use Rattle.can.specs.Fields.{messageOf};
 
@@ -17,14 +16,13 @@ pub struct Message {
     pub bytes: [u8; 8],
 }
 
-// The message that an object is.
-pub fn get_message(o: &[u8]) -> Message
-    requires { ⌜ 48 ≤ length (now o) ⌝ }
-    ensures { λ r. ⌜ r ≡ messageOf (headerOf (now (o .entry))) (bodyOf (now (o .entry))) ⌝ }
+// The message of a header and a body.
+pub fn get_message(h: headers::Header, b: &[u8]) -> Message
+    requires { ⌜ 16 ≤ length (now b) ⌝ }
+    ensures { λ r. ⌜ r ≡ messageOf h (now (b .entry)) ⌝ }
 {
-    let b = headers::body(o);
     Message {
-        header: headers::get_header(o),
+        header: h,
         channel: fields::get16(b, 0),
         flags: fields::get8(b, 2),
         dlc: fields::get8(b, 3),

@@ -4,7 +4,6 @@ ghost use Prim.Native.Nat.{_+_, _≤_};
 ghost use lib.ListN.{length};
 ghost use Rattle.fields.specs.Written.{Wrote};
 ghost use Rattle.fields.specs.Slots.{bytesOf};
-ghost use Rattle.headers.specs.Format.{headerOf, bodyOf};
 ghost use Rattle.headers.specs.Form.{bodyFault};
 ghost use Rattle.can.specs.Tables.{overloadSlots};
 ghost use Rattle.can.specs.Fields.{overloadOf, overloadFormat};
@@ -22,14 +21,13 @@ pub fn overload_fault(b: &[u8]) -> u32
     headers::first(8, fields::all_zero(b, 2, 2), 0)
 }
 
-// The overload that an object is.
-pub fn get_overload(o: &[u8]) -> Overload
-    requires { ⌜ 36 ≤ length (now o) ⌝ }
-    ensures { λ r. ⌜ r ≡ overloadOf (headerOf (now (o .entry))) (bodyOf (now (o .entry))) ⌝ }
+// The overload of a header and a body.
+pub fn get_overload(h: headers::Header, b: &[u8]) -> Overload
+    requires { ⌜ 4 ≤ length (now b) ⌝ }
+    ensures { λ r. ⌜ r ≡ overloadOf h (now (b .entry)) ⌝ }
 {
-    let b = headers::body(o);
     Overload {
-        header: headers::get_header(o),
+        header: h,
         channel: fields::get16(b, 0),
     }
 }

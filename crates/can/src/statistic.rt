@@ -4,7 +4,6 @@ ghost use Prim.Native.Nat.{_+_, _≤_};
 ghost use lib.ListN.{length};
 ghost use Rattle.fields.specs.Written.{Wrote};
 ghost use Rattle.fields.specs.Slots.{bytesOf};
-ghost use Rattle.headers.specs.Format.{headerOf, bodyOf};
 ghost use Rattle.can.specs.Tables.{counterSlots, statisticSlots};
 ghost use Rattle.can.specs.Fields.{statisticOf};
 
@@ -21,14 +20,13 @@ pub struct Statistic {
     pub overloads: u32,
 }
 
-// The statistic that an object is.
-pub fn get_statistic(o: &[u8]) -> Statistic
-    requires { ⌜ 60 ≤ length (now o) ⌝ }
-    ensures { λ r. ⌜ r ≡ statisticOf (headerOf (now (o .entry))) (bodyOf (now (o .entry))) ⌝ }
+// The statistic of a header and a body.
+pub fn get_statistic(h: headers::Header, b: &[u8]) -> Statistic
+    requires { ⌜ 28 ≤ length (now b) ⌝ }
+    ensures { λ r. ⌜ r ≡ statisticOf h (now (b .entry)) ⌝ }
 {
-    let b = headers::body(o);
     Statistic {
-        header: headers::get_header(o),
+        header: h,
         channel: fields::get16(b, 0),
         load: fields::get16(b, 2),
         standard_data: fields::get32(b, 4),

@@ -1,5 +1,4 @@
 // CAN message, type 1.
-use headers::Header;
 use objects::Cursor;
 use outcomes::ReadAnswer;
 use outcomes::Written;
@@ -11,7 +10,7 @@ ghost use Rattle.outcomes.specs.Writes.{Outcome};
 
 const KIND: u32 = headers::CAN_MESSAGE;
 
-const SIZE: usize = 48;
+const BODY: usize = 16;
 
 // What a read is told, the next cursor, and the record: zeros but where it is told of one.
 pub struct MessageRead {
@@ -24,10 +23,10 @@ pub struct MessageRead {
 pub fn message_in(o: &[u8]) -> can::Message
     ensures { λ r. ⌜ r ≡ recordIn canMessage (now (o .entry)) ⌝ }
 {
-    if o.len() < SIZE {
-        return can::get_message(&[0u8; SIZE]);
+    if !headers::holds(o, BODY) {
+        return can::get_message(headers::no_header(), &[0u8; BODY]);
     }
-    can::get_message(o)
+    can::get_message(headers::get_header(o), headers::body(o))
 }
 
 // The message at the cursor.
@@ -46,10 +45,10 @@ pub fn write_message(r: can::Message, out: &mut [u8]) -> Written
     ensures { λ w. ⌜ Outcome (known canMessage r) w (now (out .entry)) (now (out .exit)) ⌝ }
 {
     let h = r.header;
-    let number = outcomes::begin(out, KIND, h, true, SIZE as u32);
+    let number = outcomes::begin(out, KIND, h, true, BODY);
     if number != 0 {
         return Written::Refused { number, place: 0 };
     }
-    can::put_message(out, Header::LENGTH, r);
-    outcomes::pad(out, SIZE as u32)
+    can::put_message(out, headers::length(h), r);
+    outcomes::pad(out, headers::size(h, BODY))
 }

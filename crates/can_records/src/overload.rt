@@ -1,5 +1,4 @@
 // CAN overload, type 3.
-use headers::Header;
 use objects::Cursor;
 use outcomes::ReadAnswer;
 use outcomes::Written;
@@ -11,7 +10,7 @@ ghost use Rattle.outcomes.specs.Writes.{Outcome};
 
 const KIND: u32 = headers::CAN_OVERLOAD;
 
-const SIZE: usize = 36;
+const BODY: usize = 4;
 
 // What a read is told, the next cursor, and the record: zeros but where it is told of one.
 pub struct OverloadRead {
@@ -24,10 +23,10 @@ pub struct OverloadRead {
 pub fn overload_in(o: &[u8]) -> can::Overload
     ensures { λ r. ⌜ r ≡ recordIn overload (now (o .entry)) ⌝ }
 {
-    if o.len() < SIZE {
-        return can::get_overload(&[0u8; SIZE]);
+    if !headers::holds(o, BODY) {
+        return can::get_overload(headers::no_header(), &[0u8; BODY]);
     }
-    can::get_overload(o)
+    can::get_overload(headers::get_header(o), headers::body(o))
 }
 
 // The overload at the cursor.
@@ -46,10 +45,10 @@ pub fn write_overload(r: can::Overload, out: &mut [u8]) -> Written
     ensures { λ w. ⌜ Outcome (known overload r) w (now (out .entry)) (now (out .exit)) ⌝ }
 {
     let h = r.header;
-    let number = outcomes::begin(out, KIND, h, true, SIZE as u32);
+    let number = outcomes::begin(out, KIND, h, true, BODY);
     if number != 0 {
         return Written::Refused { number, place: 0 };
     }
-    can::put_overload(out, Header::LENGTH, r);
-    outcomes::pad(out, SIZE as u32)
+    can::put_overload(out, headers::length(h), r);
+    outcomes::pad(out, headers::size(h, BODY))
 }

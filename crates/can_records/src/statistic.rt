@@ -1,5 +1,4 @@
 // CAN statistic, type 4.
-use headers::Header;
 use objects::Cursor;
 use outcomes::ReadAnswer;
 use outcomes::Written;
@@ -11,7 +10,7 @@ ghost use Rattle.outcomes.specs.Writes.{Outcome};
 
 const KIND: u32 = headers::CAN_STATISTIC;
 
-const SIZE: usize = 60;
+const BODY: usize = 28;
 
 // What a read is told, the next cursor, and the record: zeros but where it is told of one.
 pub struct StatisticRead {
@@ -24,10 +23,10 @@ pub struct StatisticRead {
 pub fn statistic_in(o: &[u8]) -> can::Statistic
     ensures { λ r. ⌜ r ≡ recordIn statistic (now (o .entry)) ⌝ }
 {
-    if o.len() < SIZE {
-        return can::get_statistic(&[0u8; SIZE]);
+    if !headers::holds(o, BODY) {
+        return can::get_statistic(headers::no_header(), &[0u8; BODY]);
     }
-    can::get_statistic(o)
+    can::get_statistic(headers::get_header(o), headers::body(o))
 }
 
 // The statistic at the cursor.
@@ -46,10 +45,10 @@ pub fn write_statistic(r: can::Statistic, out: &mut [u8]) -> Written
     ensures { λ w. ⌜ Outcome (known statistic r) w (now (out .entry)) (now (out .exit)) ⌝ }
 {
     let h = r.header;
-    let number = outcomes::begin(out, KIND, h, true, SIZE as u32);
+    let number = outcomes::begin(out, KIND, h, true, BODY);
     if number != 0 {
         return Written::Refused { number, place: 0 };
     }
-    can::put_statistic(out, Header::LENGTH, r);
-    outcomes::pad(out, SIZE as u32)
+    can::put_statistic(out, headers::length(h), r);
+    outcomes::pad(out, headers::size(h, BODY))
 }

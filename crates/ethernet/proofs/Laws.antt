@@ -1,18 +1,19 @@
 -- The laws of the Ethernet records: what the slots of each hold is its record, and gaps and rules are the slots'.
 -- Assumes nothing.
 use mathlib.Core.Path.{_≡_, refl}
-use Prim.Native.Nat.{ℕ}
+use Prim.Native.Nat.{ℕ, _+_}
 use native.Mathlib.Omega.{arith}
 use lib.ListN.{length, drop, length-drop}
 use Rattle.fields.specs.Digits.{le}
 use Rattle.fields.specs.Slots.{bytesOf}
+use Rattle.fields.proofs.Puts.{bytes-length}
 use Rattle.headers.specs.declared.header.Header.{Header}
 use Rattle.headers.specs.Types as kind
-use Rattle.headers.specs.Types.{upTo, Kind, typeOf, typeList}
-use Rattle.headers.specs.Rows.{rowIn, allowed}
+use Rattle.headers.specs.Types.{upTo, Kind, bodiesOf}
 use Rattle.headers.specs.Layout.{Lawful}
 use Rattle.headers.specs.Form.{layout}
 use Rattle.headers.proofs.Forms.{lawful, plain}
+use Rattle.ethernet.specs.declared.status.Status.{Status}
 use Rattle.ethernet.specs.declared.frame.Frame.{Frame}
 use Rattle.ethernet.specs.declared.frame_error.FrameError.{FrameError}
 use Rattle.ethernet.specs.Fields.{statusOf, statusFormat, structureLength, longestFrame, frameOf, errorOf, Framed, frameFormat, errorFormat}
@@ -20,9 +21,9 @@ use Rattle.ethernet.specs.Tables.{eightSlots, statusSlots, statusForm, o
 use Rattle.ethernet.proofs.Sizes.{long, frame-allowed}
 
 pub status-laws : Lawful kind.ethernetStatus (layout statusFormat statusForm)
-unfolding typeList rowIn allowed statusOf statusSlots eightSlots
+unfolding statusOf statusSlots eightSlots
 status-laws =
-    plain kind.ethernetStatus statusFormat statusForm tt refl (λ r. refl) (λ r. refl) refl (λ h b. refl)
+    plain kind.ethernetStatus statusFormat statusForm tt refl (λ r. refl) refl (λ h b. refl)
     (λ h v. let e = v .1 .1 in record {
       header = h;
       channel = v .0;
@@ -39,7 +40,11 @@ status-laws =
     })
     (λ h b. refl) (λ h v. refl) (λ r. refl) (λ h v. refl) (λ r. tt)
 
--- the frame's bytes stand behind the structure
+pub status-length : (r : Status) → length (bytesOf statusSlots r) ≡ 16
+unfolding statusSlots eightSlots
+status-length r = bytes-length r statusSlots tt
+
+-- the frame's bytes stand behind the structure, and make up the body with it
 pub frame-view : (f : Framed Frame) → drop structureLength (bytesOf frameSlots f) ≡ f .bytes
 unfolding bytesOf frameSlots eventSlots originSlots transmissionSlots le
 frame-view f = refl
@@ -47,6 +52,14 @@ frame-view f = refl
 pub error-view : (e : Framed FrameError) → drop structureLength (bytesOf errorSlots e) ≡ e .bytes
 unfolding bytesOf errorSlots eventSlots originSlots transmissionSlots le
 error-view e = refl
+
+pub frame-length : (f : Framed Frame) → length (bytesOf frameSlots f) ≡ structureLength + length (f .bytes)
+unfolding bytesOf frameSlots eventSlots originSlots transmissionSlots le
+frame-length f = omega arith
+
+pub error-length : (e : Framed FrameError) → length (bytesOf errorSlots e) ≡ structureLength + length (e .bytes)
+unfolding bytesOf errorSlots eventSlots originSlots transmissionSlots le
+error-length e = omega arith
 
 -- the frame in the values of the slots; T is those from 28 on
 abbrev made : {T : Type 0} → Header → Unit {0} × (ℕ × (ℕ × (ℕ × (ℕ × (ℕ × (ℕ × (Unit {0} × (ℕ × T)))))))) → Frame
@@ -61,7 +74,7 @@ made h v = record {
   handle = v .1 .1 .1 .1 .1 .1 .1 .1 .0;
 }
 
-module _ (k : Kind) (e : typeOf k .sizes ≡ upTo 64 longestFrame) where
+module _ (k : Kind) (e : bodiesOf k ≡ upTo structureLength longestFrame) where
   frame-lawful : Lawful k (layout frameFormat frameForm)
   unfolding frameOf bytesOf frameSlots eventSlots originSlots transmissionSlots le
   frame-lawful =
@@ -75,8 +88,7 @@ module _ (k : Kind) (e : typeOf k .sizes ≡ upTo 64 longestFrame) where
         kept = λ h b t. refl;
         extra = λ h b t. tt;
         fill = long k e;
-        size = λ f. omega arith;
-        content = λ f. frame-allowed k e (length (f .bytes));
+        content = λ f. rw (frame-length f) (frame-allowed k e (length (f .bytes)));
       })
 
   error-lawful : Lawful k (layout errorFormat errorForm)
@@ -92,8 +104,7 @@ module _ (k : Kind) (e : typeOf k .sizes ≡ upTo 64 longestFrame) where
         kept = λ h b t. refl;
         extra = λ h b t. tt;
         fill = long k e;
-        size = λ f. omega arith;
-        content = λ f. frame-allowed k e (length (f .bytes));
+        content = λ f. rw (error-length f) (frame-allowed k e (length (f .bytes)));
       })
 
 pub frame-laws : Lawful kind.frame (layout frameFormat frameForm)

@@ -1,4 +1,4 @@
--- 01, types 103 and 120 to 123: where the fields of the Ethernet records stand. Offsets from the header's end.
+-- 01, types 103 and 120 to 123: where the fields of the Ethernet records stand. Offsets and lengths from the header's end.
 use Prim.Native.Nat.{ℕ, _-_}
 use mathlib.Core.List.{List, [], _∷_}
 use lib.Dec.{eqb, leb}
@@ -11,7 +11,7 @@ use Rattle.ethernet.specs.declared.status.Status.{Status}
 use Rattle.ethernet.specs.declared.frame.Frame.{Frame}
 use Rattle.ethernet.specs.declared.frame_error.FrameError.{FrameError}
 
--- type 103: Ethernet status, 48 bytes; the eight bytes are in document 003's order
+-- type 103: Ethernet status, 16 bytes; the eight bytes are in document 003's order
 unfoldable pub statusOf : Header → List ℕ → Status
 statusOf h b = record {
   header = h;
@@ -38,7 +38,7 @@ structureLength = 32
 abbrev pub longestFrame : ℕ
 longestFrame = 1612
 
--- types 120 and 121: Ethernet frame and forwarded frame, 64 + n bytes
+-- types 120 and 121: Ethernet frame and forwarded frame, 32 + n bytes
 unfoldable pub frameOf : Header → List ℕ → Frame
 frameOf h b = record {
   header = h;
@@ -51,7 +51,7 @@ frameOf h b = record {
   handle = num 4 b 24;
 }
 
--- types 122 and 123: Ethernet error and forwarded error, 64 + n bytes
+-- types 122 and 123: Ethernet error and forwarded error, 32 + n bytes
 unfoldable pub errorOf : Header → List ℕ → FrameError
 errorOf h b = record { frame = frameOf h b; code = num 4 b 28 }
 
@@ -66,7 +66,7 @@ frameIn h b = record { value = frameOf h b; bytes = drop structureLength b }
 abbrev pub errorIn : Header → List ℕ → Framed FrameError
 errorIn h b = record { value = errorOf h b; bytes = drop structureLength b }
 
--- 9: structure length not 32; frame length not size minus 64
+-- 9: structure length not 32; frame length not what the size leaves behind header and structure
 abbrev pub lengthRules : List ℕ → List Rule
 lengthRules b =
     rule 0 (eqb (num 2 b 0) structureLength)

@@ -1,9 +1,9 @@
 -- The slots of the Ethernet records, row by row of 01: what Fields reads, the other way round.
-use Prim.Native.Nat.{ℕ, _+_, min}
-use mathlib.Core.List.{List, []}
+use Prim.Native.Nat.{ℕ}
+use mathlib.Core.List.{List}
 use lib.ListN.{length}
 use Rattle.fields.specs.Slots.{Slot, number, reserved, derived, Slots, end, rest, _▸_, joined}
-use Rattle.headers.specs.Form.{Form, fixed}
+use Rattle.headers.specs.Form.{Form, ruleless}
 use Rattle.ethernet.specs.declared.status.Status.{Status}
 use Rattle.ethernet.specs.declared.frame.Frame.{Frame}
 use Rattle.ethernet.specs.declared.frame_error.FrameError.{FrameError}
@@ -31,7 +31,7 @@ statusSlots =
     ▸ end)
 
 abbrev pub statusForm : Form Status
-statusForm = fixed 48 statusSlots
+statusForm = ruleless statusSlots
 
 -- frames and errors: the structure length, and where the frame was seen
 unfoldable pub originSlots : {A : Type 0} → (A → Frame) → Slots A
@@ -66,15 +66,8 @@ frameSlots = eventSlots (λ f. f .value) (reserved 4) (λ f. f .bytes)
 unfoldable pub errorSlots : Slots (Framed FrameError)
 errorSlots = eventSlots (λ e. e .value .frame) (number 4 (λ e. e .value .code)) (λ e. e .bytes)
 
--- the size of an object with a frame of n bytes; where it is more than the size field can say, the most that this can
-abbrev pub frameSize : ℕ → ℕ
-frameSize n = min (64 + n) 4294967295
-
-abbrev pub eventForm : {A : Type 0} → Slots (Framed A) → Form (Framed A)
-eventForm slots = record { slots = slots; rules = λ f. []; size = λ f. frameSize (length (f .bytes)); Extra = λ f. Unit }
-
 abbrev pub frameForm : Form (Framed Frame)
-frameForm = eventForm frameSlots
+frameForm = ruleless frameSlots
 
 abbrev pub errorForm : Form (Framed FrameError)
-errorForm = eventForm errorSlots
+errorForm = ruleless errorSlots

@@ -6,7 +6,6 @@ ghost use Prim.Native.Nat.{_+_, _≤_};
 ghost use lib.ListN.{length, drop};
 ghost use Rattle.fields.specs.Written.{Wrote};
 ghost use Rattle.fields.specs.Slots.{bytesOf};
-ghost use Rattle.headers.specs.Format.{headerOf, bodyOf};
 ghost use Rattle.headers.specs.Form.{bodyFault};
 ghost use Rattle.ethernet.specs.Fields.{structureLength, longestFrame, frameOf, frameFormat};
 ghost use Rattle.ethernet.specs.Tables.{frameSlots};
@@ -37,14 +36,13 @@ pub fn frame_fault(b: &[u8]) -> u32
     headers::first(8, reserved, length_fault(b))
 }
 
-// The record of the frame that an object holds; `frame_view` gives the frame's bytes.
-pub fn get_frame(o: &[u8]) -> Frame
-    requires { ⌜ 64 ≤ length (now o) ⌝ }
-    ensures { λ r. ⌜ r ≡ frameOf (headerOf (now (o .entry))) (bodyOf (now (o .entry))) ⌝ }
+// The frame of a header and a body; `frame_view` gives its bytes.
+pub fn get_frame(h: headers::Header, b: &[u8]) -> Frame
+    requires { ⌜ structureLength ≤ length (now b) ⌝ }
+    ensures { λ r. ⌜ r ≡ frameOf h (now (b .entry)) ⌝ }
 {
-    let b = headers::body(o);
     Frame {
-        header: headers::get_header(o),
+        header: h,
         flags: fields::get16(b, 2),
         channel: fields::get16(b, 4),
         hardware: fields::get16(b, 6),

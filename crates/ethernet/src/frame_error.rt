@@ -8,7 +8,6 @@ ghost use Prim.Native.Nat.{_+_, _≤_};
 ghost use lib.ListN.{length};
 ghost use Rattle.fields.specs.Written.{Wrote};
 ghost use Rattle.fields.specs.Slots.{bytesOf};
-ghost use Rattle.headers.specs.Format.{headerOf, bodyOf};
 ghost use Rattle.headers.specs.Form.{bodyFault};
 ghost use Rattle.ethernet.specs.Fields.{structureLength, longestFrame, errorOf, errorFormat};
 ghost use Rattle.ethernet.specs.Tables.{errorSlots};
@@ -27,14 +26,13 @@ pub fn error_fault(b: &[u8]) -> u32
     length_fault(b)
 }
 
-// The record of the error that an object holds; `frame_view` gives the frame's bytes.
-pub fn get_error(o: &[u8]) -> FrameError
-    requires { ⌜ 64 ≤ length (now o) ⌝ }
-    ensures { λ r. ⌜ r ≡ errorOf (headerOf (now (o .entry))) (bodyOf (now (o .entry))) ⌝ }
+// The error of a header and a body; `frame_view` gives the frame's bytes.
+pub fn get_error(h: headers::Header, b: &[u8]) -> FrameError
+    requires { ⌜ structureLength ≤ length (now b) ⌝ }
+    ensures { λ r. ⌜ r ≡ errorOf h (now (b .entry)) ⌝ }
 {
-    let b = headers::body(o);
     FrameError {
-        frame: get_frame(o),
+        frame: get_frame(h, b),
         code: fields::get32(b, 28),
     }
 }

@@ -4,7 +4,6 @@ ghost use Prim.Native.Nat.{_+_, _≤_};
 ghost use lib.ListN.{length};
 ghost use Rattle.fields.specs.Written.{Wrote};
 ghost use Rattle.fields.specs.Slots.{bytesOf};
-ghost use Rattle.headers.specs.Format.{headerOf, bodyOf};
 ghost use Rattle.ethernet.specs.Tables.{statusSlots};
 ghost use Rattle.ethernet.specs.Fields.{statusOf};
 
@@ -23,14 +22,13 @@ pub struct Status {
     pub bitrate: u32,
 }
 
-// The status that an object is.
-pub fn get_status(o: &[u8]) -> Status
-    requires { ⌜ 48 ≤ length (now o) ⌝ }
-    ensures { λ r. ⌜ r ≡ statusOf (headerOf (now (o .entry))) (bodyOf (now (o .entry))) ⌝ }
+// The status of a header and a body.
+pub fn get_status(h: headers::Header, b: &[u8]) -> Status
+    requires { ⌜ 16 ≤ length (now b) ⌝ }
+    ensures { λ r. ⌜ r ≡ statusOf h (now (b .entry)) ⌝ }
 {
-    let b = headers::body(o);
     Status {
-        header: headers::get_header(o),
+        header: h,
         channel: fields::get16(b, 0),
         flags: fields::get16(b, 2),
         link: fields::get8(b, 4),

@@ -1,13 +1,10 @@
 // The Ethernet frame, type 120, and the forwarded frame, type 121, which differs in its number alone.
 use ethernet::Frame;
-use headers::Header;
 use objects::Cursor;
 use outcomes::ReadAnswer;
 use outcomes::Written;
 ghost use mathlib.Core.Path.{_≡_};
 ghost use mathlib.Core.Logic.{_⊎_};
-ghost use lib.ListN.{length};
-ghost use Rattle.ethernet.specs.Tables.{frameSize};
 ghost use Rattle.headers.specs.Types.{frame, forwardedFrame, numberOf};
 ghost use Rattle.objects.specs.Items.{known};
 ghost use Rattle.outcomes.specs.Reads.{recordIn, ReadsAs};
@@ -17,11 +14,6 @@ ghost use Rattle.ethernet_records.specs.Framed.{framed, bytesIn};
 const KIND: u32 = headers::ETHERNET_FRAME;
 
 const FORWARDED: u32 = headers::FORWARDED_FRAME;
-
-const SIZE: usize = 64;
-
-// The most that an object's size field can say.
-const MOST: usize = 4294967295;
 
 // What a read is told, the next cursor, and the record: zeros but where it is told of one. The frame's bytes are
 // `objects::frame` at the same cursor.
@@ -36,18 +28,18 @@ pub struct FrameRead {
 pub fn frame_in(o: &[u8]) -> Frame
     ensures { λ r. ⌜ r ≡ recordIn frame (now (o .entry)) .value ⌝ }
 {
-    if o.len() < SIZE {
-        return ethernet::get_frame(&[0u8; SIZE]);
+    if !headers::holds(o, Frame::LENGTH) {
+        return ethernet::get_frame(headers::no_header(), &[0u8; Frame::LENGTH]);
     }
-    ethernet::get_frame(o)
+    ethernet::get_frame(headers::get_header(o), headers::body(o))
 }
 
-// The frame's bytes that stand in an object, of any of the four types: what is behind 64 bytes, none where they are too
-// few.
+// The frame's bytes that stand in an object, of any of the four types: what is behind header and structure, none where
+// they are too few.
 pub fn bytes_in(o: &[u8]) -> &[u8]
     ensures { λ r. ⌜ now r ≡ bytesIn (now (o .entry)) ⌝ }
 {
-    if o.len() < SIZE {
+    if !headers::holds(o, Frame::LENGTH) {
         return &o[..0];
     }
     ethernet::frame_view(headers::body(o))
@@ -79,17 +71,6 @@ pub fn read_forwarded_frame(log: &[u8], c: Cursor) -> FrameRead
     read_as(FORWARDED, log, c)
 }
 
-// The size of the object that holds a lent frame; where its size field can't say that, the most that it can. The type
-// list says which sizes are too long.
-pub fn frame_size(lent: &[u8]) -> u32
-    ensures { λ r. ⌜ r ≡ frameSize (length (now (lent .entry))) ⌝ }
-{
-    if lent.len() <= MOST - SIZE {
-        return (SIZE + lent.len()) as u32;
-    }
-    MOST as u32
-}
-
 // Writes a record of either type.
 fn write_as(kind: u32, r: Frame, lent: &[u8], out: &mut [u8]) -> Written
     requires { ⌜ (kind ≡ 120) ⊎ (kind ≡ 121) ⌝ }
@@ -97,13 +78,13 @@ fn write_as(kind: u32, r: Frame, lent: &[u8], out: &mut [u8]) -> Written
         × (kind ≡ 121 → Outcome (known forwardedFrame (framed r (now (lent .entry)))) w (now (out .entry)) (now (out .exit))) ⌝ }
 {
     let h = r.header;
-    let size = frame_size(lent);
-    let number = outcomes::begin(out, kind, h, true, size);
+    let n = Frame::LENGTH + lent.len();
+    let number = outcomes::begin(out, kind, h, true, n);
     if number != 0 {
         return Written::Refused { number, place: 0 };
     }
-    ethernet::put_frame(out, Header::LENGTH, r, lent);
-    outcomes::pad(out, size)
+    ethernet::put_frame(out, headers::length(h), r, lent);
+    outcomes::pad(out, headers::size(h, n))
 }
 
 // Writes a frame, whose bytes are lent, with its padding to the front of `out`.

@@ -1,8 +1,7 @@
 // The Ethernet error, type 122, and the forwarded error, type 123, which differs in its number alone: a frame that went
 // wrong.
-use crate::frame::frame_size;
+use ethernet::Frame;
 use ethernet::FrameError;
-use headers::Header;
 use objects::Cursor;
 use outcomes::ReadAnswer;
 use outcomes::Written;
@@ -18,8 +17,6 @@ const KIND: u32 = headers::ETHERNET_ERROR;
 
 const FORWARDED: u32 = headers::FORWARDED_ERROR;
 
-const SIZE: usize = 64;
-
 // What a read is told, the next cursor, and the record: zeros but where it is told of one. The frame's bytes are
 // `objects::frame` at the same cursor.
 pub struct ErrorRead {
@@ -33,10 +30,10 @@ pub struct ErrorRead {
 pub fn error_in(o: &[u8]) -> FrameError
     ensures { λ r. ⌜ r ≡ recordIn ethernetError (now (o .entry)) .value ⌝ }
 {
-    if o.len() < SIZE {
-        return ethernet::get_error(&[0u8; SIZE]);
+    if !headers::holds(o, Frame::LENGTH) {
+        return ethernet::get_error(headers::no_header(), &[0u8; Frame::LENGTH]);
     }
-    ethernet::get_error(o)
+    ethernet::get_error(headers::get_header(o), headers::body(o))
 }
 
 // The error at the cursor, of either type.
@@ -73,13 +70,13 @@ fn write_as(kind: u32, e: FrameError, lent: &[u8], out: &mut [u8]) -> Written
 {
     let f = e.frame;
     let h = f.header;
-    let size = frame_size(lent);
-    let number = outcomes::begin(out, kind, h, true, size);
+    let n = Frame::LENGTH + lent.len();
+    let number = outcomes::begin(out, kind, h, true, n);
     if number != 0 {
         return Written::Refused { number, place: 0 };
     }
-    ethernet::put_error(out, Header::LENGTH, e, lent);
-    outcomes::pad(out, size)
+    ethernet::put_error(out, headers::length(h), e, lent);
+    outcomes::pad(out, headers::size(h, n))
 }
 
 // Writes an error, whose frame is lent, with its padding to the front of `out`.

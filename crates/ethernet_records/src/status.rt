@@ -1,5 +1,4 @@
 // Ethernet status, type 103.
-use headers::Header;
 use objects::Cursor;
 use outcomes::ReadAnswer;
 use outcomes::Written;
@@ -11,7 +10,7 @@ ghost use Rattle.outcomes.specs.Writes.{Outcome};
 
 const KIND: u32 = headers::ETHERNET_STATUS;
 
-const SIZE: usize = 48;
+const BODY: usize = 16;
 
 // What a read is told, the next cursor, and the record: zeros but where it is told of one.
 pub struct StatusRead {
@@ -24,10 +23,10 @@ pub struct StatusRead {
 pub fn status_in(o: &[u8]) -> ethernet::Status
     ensures { λ r. ⌜ r ≡ recordIn ethernetStatus (now (o .entry)) ⌝ }
 {
-    if o.len() < SIZE {
-        return ethernet::get_status(&[0u8; SIZE]);
+    if !headers::holds(o, BODY) {
+        return ethernet::get_status(headers::no_header(), &[0u8; BODY]);
     }
-    ethernet::get_status(o)
+    ethernet::get_status(headers::get_header(o), headers::body(o))
 }
 
 // The status at the cursor.
@@ -46,10 +45,10 @@ pub fn write_status(r: ethernet::Status, out: &mut [u8]) -> Written
     ensures { λ w. ⌜ Outcome (known ethernetStatus r) w (now (out .entry)) (now (out .exit)) ⌝ }
 {
     let h = r.header;
-    let number = outcomes::begin(out, KIND, h, true, SIZE as u32);
+    let number = outcomes::begin(out, KIND, h, true, BODY);
     if number != 0 {
         return Written::Refused { number, place: 0 };
     }
-    ethernet::put_status(out, Header::LENGTH, r);
-    outcomes::pad(out, SIZE as u32)
+    ethernet::put_status(out, headers::length(h), r);
+    outcomes::pad(out, headers::size(h, BODY))
 }

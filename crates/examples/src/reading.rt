@@ -73,7 +73,7 @@ pub fn foreigners() {
 
 pub fn tails() {
     let mut log = samples::room();
-    headers::put_header(&mut log, 57, 184, samples::header(2));
+    lin_records::write_message(samples::message(), &mut log);
     tell::step(
         b"a LIN message whose exact header baud rate is 0: ",
         &log,

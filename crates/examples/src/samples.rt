@@ -18,10 +18,47 @@ pub fn frame() -> [u8; 1680]
     ensures { λ r. ⌜ 1680 ≡ length r ⌝ }
 {
     let mut log = room();
-    headers::put_header(&mut log, 120, 1676, header(2));
-    fields::put16(&mut log, 32, 32);
-    fields::put16(&mut log, 54, 1612);
+    let header = header(2);
+    let mut frame = ethernet_records::frame_in(&log);
+    frame.header = header;
+    ethernet_records::write_frame(frame, &[0u8; 1612], &mut log);
     log
+}
+
+// A LIN message with an exact baud rate, zeros else.
+pub fn message() -> lin::Message {
+    let header = header(2);
+    let tail = lin::Tail::Rates {
+        response: 0,
+        exact: 0.0,
+        header_stop: 0,
+        response_stop: 0,
+    };
+    lin::Message {
+        header,
+        start: 0,
+        baud: 0,
+        channel: 0,
+        breaking: 0,
+        delimiter: 0,
+        supplier: 0,
+        message: 0,
+        nad: 0,
+        id: 0,
+        dlc: 0,
+        model: 0,
+        stamps: [0; 9],
+        bytes: [0; 8],
+        checksum: 0,
+        direction: 0,
+        simulated: 0,
+        triggered: 0,
+        index: 0,
+        associated: 0,
+        machine: 0,
+        state: 0,
+        tail,
+    }
 }
 
 // A foreign object of 17 bytes, type 9999, and its padding.

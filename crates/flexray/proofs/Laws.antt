@@ -1,19 +1,22 @@
--- The laws of FlexRay receive: what its slots hold is its record, and gaps and rules are the slots'. Assumes nothing.
-use mathlib.Core.Path.{refl}
+-- The laws of FlexRay receive: what its slots hold is its record, and gaps and rules are the slots'; and how long its
+-- body is. Assumes nothing.
+use mathlib.Core.Path.{_≡_, refl}
 use mathlib.Core.Bool.{and-true}
+use lib.ListN.{length}
+use Rattle.fields.specs.Slots.{bytesOf}
+use Rattle.fields.proofs.Puts.{bytes-length}
 use Rattle.headers.specs.Types as kind
-use Rattle.headers.specs.Types.{typeList}
-use Rattle.headers.specs.Rows.{rowIn, allowed}
 use Rattle.headers.specs.Layout.{Lawful}
 use Rattle.headers.specs.Form.{layout}
 use Rattle.headers.proofs.Forms.{plain}
+use Rattle.flexray.specs.declared.receive.Receive.{Receive}
 use Rattle.flexray.specs.Fields.{receiveOf, countsOk, receiveFormat}
 use Rattle.flexray.specs.Tables.{originSlots, slotSlots, controllerSlots, receiveSlots, receiveForm}
 
 pub receive-laws : Lawful kind.receive (layout receiveFormat receiveForm)
-unfolding typeList rowIn allowed receiveOf receiveSlots originSlots slotSlots controllerSlots
+unfolding receiveOf receiveSlots originSlots slotSlots controllerSlots
 receive-laws =
-    plain kind.receive receiveFormat receiveForm tt refl (λ r. refl) (λ r. and-true (countsOk (r .total) (r .stored))) refl (λ h b. refl)
+    plain kind.receive receiveFormat receiveForm tt refl (λ r. and-true (countsOk (r .total) (r .stored))) refl (λ h b. refl)
     (λ h v. let s = v .1 .1 .1 .1 .1 .1 .1 in let c = s .1 .1 .1 .1 .1 .1 .1 in record {
       header = h;
       channel = v .0;
@@ -34,3 +37,7 @@ receive-laws =
       bytes = c .1 .1 .1 .1 .0;
     })
     (λ h b. refl) (λ h v. refl) (λ r. refl) (λ h v. refl) (λ r. tt)
+
+pub receive-length : (r : Receive) → length (bytesOf receiveSlots r) ≡ 298
+unfolding receiveSlots originSlots slotSlots controllerSlots
+receive-length r = bytes-length r receiveSlots tt

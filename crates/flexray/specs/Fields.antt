@@ -1,4 +1,4 @@
--- 01, type 50: FlexRay receive, 330 bytes (002, 3.7): where its fields stand. Offsets from the header's end.
+-- 01, type 50: FlexRay receive, 298 bytes (002, 3.7): where its fields stand. Offsets and length from the header's end.
 use Prim.Native.Nat.{ℕ}
 use mathlib.Core.Bool.{Bool, _&&_}
 use mathlib.Core.List.{List, [], _∷_}

@@ -52,6 +52,5 @@ receiveForm =
     record {
       slots = receiveSlots;
       rules = λ r. rule 24 (countsOk (r .total) (r .stored)) ∷ [];
-      size = λ r. 330;
       Extra = λ r. Unit;
     }

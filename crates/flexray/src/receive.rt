@@ -4,7 +4,6 @@ ghost use Prim.Native.Nat.{_+_, _≤_};
 ghost use lib.ListN.{length};
 ghost use Rattle.fields.specs.Written.{Wrote};
 ghost use Rattle.fields.specs.Slots.{bytesOf};
-ghost use Rattle.headers.specs.Format.{headerOf, bodyOf};
 ghost use Rattle.headers.specs.Form.{bodyFault};
 ghost use Rattle.flexray.specs.Tables.{originSlots, slotSlots, controllerSlots, receiveSlots};
 ghost use Rattle.flexray.specs.Fields.{receiveOf, countsOk, receiveFormat};
@@ -55,15 +54,14 @@ pub fn receive_fault(b: &[u8]) -> u32
     headers::first(8, after_direction, headers::first(8, after_cycle, later))
 }
 
-// The record that an object is.
-pub fn get_receive(o: &[u8]) -> Receive
-    requires { ⌜ 330 ≤ length (now o) ⌝ }
-    ensures { λ r. ⌜ r ≡ receiveOf (headerOf (now (o .entry))) (bodyOf (now (o .entry))) ⌝ }
+// The record of a header and a body.
+pub fn get_receive(h: headers::Header, b: &[u8]) -> Receive
+    requires { ⌜ 298 ≤ length (now b) ⌝ }
+    ensures { λ r. ⌜ r ≡ receiveOf h (now (b .entry)) ⌝ }
 {
-    let b = headers::body(o);
     let bytes = fields::get8x254(b, 44);
     Receive {
-        header: headers::get_header(o),
+        header: h,
         channel: fields::get16(b, 0),
         version: fields::get16(b, 2),
         mask: fields::get16(b, 4),

@@ -1,5 +1,4 @@
 // FlexRay receive, type 50.
-use headers::Header;
 use objects::Cursor;
 use outcomes::ReadAnswer;
 use outcomes::Written;
@@ -11,7 +10,7 @@ ghost use Rattle.outcomes.specs.Writes.{Outcome};
 
 const KIND: u32 = headers::FLEXRAY_RECEIVE;
 
-const SIZE: usize = 330;
+const BODY: usize = 298;
 
 // What a read is told, the next cursor, and the record: zeros but where it is told of one.
 pub struct ReceiveRead {
@@ -24,10 +23,10 @@ pub struct ReceiveRead {
 pub fn receive_in(o: &[u8]) -> flexray::Receive
     ensures { λ r. ⌜ r ≡ recordIn receive (now (o .entry)) ⌝ }
 {
-    if o.len() < SIZE {
-        return flexray::get_receive(&[0u8; SIZE]);
+    if !headers::holds(o, BODY) {
+        return flexray::get_receive(headers::no_header(), &[0u8; BODY]);
     }
-    flexray::get_receive(o)
+    flexray::get_receive(headers::get_header(o), headers::body(o))
 }
 
 // The FlexRay receive at the cursor.
@@ -47,10 +46,10 @@ pub fn write_receive(r: flexray::Receive, out: &mut [u8]) -> Written
 {
     let h = r.header;
     let counts = flexray::counts_ok(r.total, r.stored);
-    let number = outcomes::begin(out, KIND, h, counts, SIZE as u32);
+    let number = outcomes::begin(out, KIND, h, counts, BODY);
     if number != 0 {
         return Written::Refused { number, place: 0 };
     }
-    flexray::put_receive(out, Header::LENGTH, r);
-    outcomes::pad(out, SIZE as u32)
+    flexray::put_receive(out, headers::length(h), r);
+    outcomes::pad(out, headers::size(h, BODY))
 }

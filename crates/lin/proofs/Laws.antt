@@ -2,28 +2,29 @@
 -- message's rest, the laws of its tail. Assumes nothing.
 use mathlib.Core.Path.{_≡_, refl}
 use mathlib.Core.Bool.{true, _&&_, and-true}
-use native.Mathlib.Omega.{arith}
-use lib.ListN.{drop}
+use Prim.Native.Nat.{_+_}
+use lib.ListN.{length, drop}
+use Rattle.fields.specs.Slots.{bytesOf}
 use Rattle.fields.proofs.Zeros.{both-true}
+use Rattle.fields.proofs.Puts.{bytes-length}
 use Rattle.fields.proofs.Parts.{drop-bytes}
 use Rattle.headers.specs.Types as kind
-use Rattle.headers.specs.Types.{typeList}
-use Rattle.headers.specs.Rows.{rowIn, rowOf, allowed}
-use Rattle.headers.specs.Layout.{Lawful}
+use Rattle.headers.specs.Layout.{bodyAllowed, Lawful}
 use Rattle.headers.specs.Form.{layout}
+use Rattle.headers.proofs.Bodies.{body-exact}
 use Rattle.headers.proofs.Forms.{lawful, plain}
-use Rattle.lin.specs.declared.tail.Tail.{Tail}
-use Rattle.lin.specs.declared.tail.Tail.the-variants.{Nothing, Response, Rates}
-use Rattle.lin.specs.Fields.{tailOf, rateOk, tailOk, messageOf, messageFormat, wakeUpOf, wakeUpFormat}
-use Rattle.lin.specs.Tail.{endSize}
+use Rattle.lin.specs.declared.message.Message.{Message}
+use Rattle.lin.specs.declared.wake_up.WakeUp.{WakeUp}
+use Rattle.lin.specs.Fields.{tailOf, tailOk, messageOf, messageFormat, wakeUpOf, wakeUpFormat}
+use Rattle.lin.specs.Tail.{tail}
 use Rattle.lin.specs.Tables.{busSlots, synchSlots, descriptorSlots, statusSlots, machineSlots, messageSlots, messageForm, wakeUpSlots, wakeUpForm}
-use Rattle.lin.proofs.TailLaws.{tail-short, end-size, tail-back, tail-forth, tail-fit}
+use Rattle.lin.proofs.TailLaws.{tail-ends, tail-back, tail-forth, tail-fit}
 use Rattle.lin.proofs.SizeLaws.{message-length, long, ends}
 
 pub wake-up-laws : Lawful kind.wakeUp (layout wakeUpFormat wakeUpForm)
-unfolding typeList rowIn allowed wakeUpOf busSlots wakeUpSlots
+unfolding wakeUpOf busSlots wakeUpSlots
 wake-up-laws =
-    plain kind.wakeUp wakeUpFormat wakeUpForm tt refl (λ r. refl) (λ r. refl) refl (λ h b. refl)
+    plain kind.wakeUp wakeUpFormat wakeUpForm tt refl (λ r. refl) refl (λ h b. refl)
     (λ h v. let p = v .1 .1 .1 .1 in record {
       header = h;
       start = v .0;
@@ -35,12 +36,13 @@ wake-up-laws =
     })
     (λ h b. refl) (λ h v. refl) (λ r. refl) (λ h v. refl) (λ r. tt)
 
--- the type list has the size by a message's end
-tail-allowed : (t : Tail) → (allowed (rowOf 57) (endSize t) && (tailOk t && true)) ≡ tailOk t
-unfolding typeList rowIn allowed
-tail-allowed Nothing = refl
-tail-allowed (Response response) = refl
-tail-allowed (Rates response exact header-stop response-stop) = and-true (rateOk exact)
+pub wake-up-length : (r : WakeUp) → length (bytesOf wakeUpSlots r) ≡ 20
+unfolding busSlots wakeUpSlots
+wake-up-length r = bytes-length r wakeUpSlots tt
+
+-- the type list has the lengths of a message
+message-allowed : (r : Message) → (bodyAllowed (kind.numberOf kind.linMessage) (length (bytesOf messageSlots r)) && (tailOk (r .tail) && true)) ≡ tailOk (r .tail)
+message-allowed r = rw (message-length r, body-exact kind.linMessage (132 + length (tail (r .tail))) .1 (tail-ends (r .tail)), and-true)
 
 pub message-laws : Lawful kind.linMessage (layout messageFormat messageForm)
 unfolding messageOf busSlots synchSlots descriptorSlots statusSlots machineSlots messageSlots
@@ -82,6 +84,5 @@ message-laws =
       kept = λ h b t. rw (tail-forth (drop 132 b) (drop-bytes 132 b (t .bytes)) (ends b (t .sized)) (both-true _ _ (t .right) .0));
       extra = λ h b t. tail-fit (drop 132 b) (drop-bytes 132 b (t .bytes)) (ends b (t .sized));
       fill = long;
-      size = λ r. omega (arith, message-length r, end-size (r .tail), tail-short (r .tail));
-      content = λ r. tail-allowed (r .tail);
+      content = message-allowed;
     })

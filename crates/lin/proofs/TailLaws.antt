@@ -1,4 +1,4 @@
--- The laws of the tail: what is written is read, what was read is written, and the size decides which it is. Assumes
+-- The laws of the tail: what is written is read, what was read is written, and the length decides which it is. Assumes
 -- nothing.
 use mathlib.Core.Path.{_≡_, refl, sym, ap, _∙_}
 use mathlib.Core.Bool.{true}
@@ -18,35 +18,27 @@ use Rattle.fields.specs.Numbers.{Bytes, num}
 use Rattle.fields.specs.Digits.{le}
 use Rattle.fields.proofs.Numbers.{val-le}
 use Rattle.fields.proofs.Reading.{Is, more, got, kept, fits}
-use Rattle.headers.specs.Format.{headerLength}
 use Rattle.headers.specs.Types.{oneOf, Has}
 use Rattle.lin.specs.declared.tail.Tail.{Tail}
 use Rattle.lin.specs.declared.tail.Tail.the-variants.{Nothing, Response, Rates}
-use Rattle.lin.specs.Tail.{rates, tail, FitTail, endSize, Decides}
+use Rattle.lin.specs.Tail.{rates, tail, FitTail, Decides}
 use Rattle.lin.specs.Fields.{tailOf, rateOk, tailOk}
 use Rattle.lin.proofs.tail.Tail.{the-type}
 use Rattle.lin.proofs.RateLaws.{rate-number}
 
--- the size of an object that ends in t
-abbrev pub sizeWith : List ℕ → ℕ
-sizeWith t = headerLength + (132 + length t)
+-- the length of a body that ends in t
+abbrev pub lengthWith : List ℕ → ℕ
+lengthWith t = 132 + length t
 
 -- t is as long as a tail
 abbrev pub Ends : List ℕ → Type 0
-Ends t = Has (oneOf 164 168 184) (sizeWith t)
+Ends t = Has (oneOf 132 136 152) (lengthWith t)
 
 pub tail-ends : (t : Tail) → Ends (tail t)
 unfolding tail rates le
 tail-ends Nothing = inl refl
 tail-ends (Response r) = inr (inl refl)
 tail-ends (Rates r x a b) = inr (inr refl)
-
--- the size of an object by its end
-pub end-size : (t : Tail) → 164 + length (tail t) ≡ endSize t
-unfolding tail rates le
-end-size Nothing = refl
-end-size (Response response) = refl
-end-size (Rates response exact header-stop response-stop) = refl
 
 pub tail-short : (t : Tail) → length (tail t) ≤ 20
 tail-short t = ⊎-elim (λ w. omega arith) (λ u. ⊎-elim (λ w. omega arith) (λ w. omega arith) u) (tail-ends t)
@@ -56,9 +48,9 @@ pub by-length : (t : List ℕ) (P : Tail → Type 0) → Ends t → (length t �
     → (length t ≡ 20 → P (Rates (num 4 t 0) (ofBits binary64 (num 8 t 4)) (num 4 t 12) (num 4 t 16))) → P (tailOf t)
 unfolding tailOf
 by-length t P ends a b c =
-    ⊎-elim (λ (e : sizeWith t ≡ 164). let l : length t ≡ 0 = omega arith in rw l (a l))
-    (λ u. ⊎-elim (λ (e : sizeWith t ≡ 168). let l : length t ≡ 4 = omega arith in rw l (b l))
-    (λ (e : sizeWith t ≡ 184). let l : length t ≡ 20 = omega arith in rw l (c l)) u) ends
+    ⊎-elim (λ (e : lengthWith t ≡ 132). let l : length t ≡ 0 = omega arith in rw l (a l))
+    (λ u. ⊎-elim (λ (e : lengthWith t ≡ 136). let l : length t ≡ 4 = omega arith in rw l (b l))
+    (λ (e : lengthWith t ≡ 152). let l : length t ≡ 20 = omega arith in rw l (c l)) u) ends
 
 pub tail-back : (t : Tail) → FitTail t → tailOf (tail t) ≡ t
 unfolding tailOf tail rates num le
@@ -121,18 +113,18 @@ ways Nothing = (λ e. refl, λ e. absurd (omega arith), λ e. absurd (omega arit
 ways (Response r) = (λ e. absurd (omega arith), λ e. (r, refl), λ e. absurd (omega arith))
 ways (Rates r x a b) = (λ e. absurd (omega arith), λ e. absurd (omega arith), λ e. (r, x, a, b, refl))
 
-pub decides : (size : ℕ) (t : Tail) → size ≡ sizeWith (tail t) → Decides size t
+pub decides : (n : ℕ) (t : Tail) → n ≡ lengthWith (tail t) → Decides n t
 unfolding tail rates le
-decides size t l =
+decides n t l =
     let w = ways t in
     record {
-      nothing = (λ (e : size ≡ 164). w .0 (omega arith), back);
-      response = (λ (e : size ≡ 168). w .1 (omega arith), λ p. back (p .1));
-      rates = (λ (e : size ≡ 184). w .2 (omega arith), λ p. back (p .4));
+      nothing = (λ (e : n ≡ 132). w .0 (omega arith), back);
+      response = (λ (e : n ≡ 136). w .1 (omega arith), λ p. back (p .1));
+      rates = (λ (e : n ≡ 152). w .2 (omega arith), λ p. back (p .4));
     }
   where
-    back : {x : Tail} → t ≡ x → size ≡ sizeWith (tail x)
-    back e = l ∙ ap (λ (x : Tail). sizeWith (tail x)) e
+    back : {x : Tail} → t ≡ x → n ≡ lengthWith (tail x)
+    back e = l ∙ ap (λ (x : Tail). lengthWith (tail x)) e
 
 -- a match that names the rates leaves the other two
 pub no-rates : (t : Tail) → OneOf (0 ∷ 1 ∷ []) (tagOf the-type t) → true ≡ tailOk t

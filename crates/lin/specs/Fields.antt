@@ -1,4 +1,4 @@
--- 01, types 57 and 62: where the fields of the LIN records stand. Offsets from the header's end.
+-- 01, types 57 and 62: where the fields of the LIN records stand. Offsets and lengths from the header's end.
 use Prim.Native.Nat.{ℕ}
 use mathlib.Core.Bool.{Bool, true, false, not, cond}
 use mathlib.Core.List.{List, [], _∷_}
@@ -32,7 +32,7 @@ tailOk Nothing = true
 tailOk (Response response) = true
 tailOk (Rates response exact header-stop response-stop) = rateOk exact
 
--- type 57: LIN message 2, 164, 168 or 184 bytes (001, 3.3)
+-- type 57: LIN message 2, 132, 136 or 152 bytes (001, 3.3)
 unfoldable pub messageOf : Header → List ℕ → Message
 messageOf h b = record {
   header = h;
@@ -66,7 +66,7 @@ messageFormat =
     frameless Message (λ r. r .header) messageOf (gap 14 2 ∷ gap 129 3 ∷ [])
     (λ b. rule 136 (tailOk (tailOf (drop 132 b))) ∷ []) (λ r. tailOk (r .tail))
 
--- type 62: LIN wake-up 2, 52 bytes (001, 3.8)
+-- type 62: LIN wake-up 2, 20 bytes (001, 3.8)
 unfoldable pub wakeUpOf : Header → List ℕ → WakeUp
 wakeUpOf h b = record {
   header = h;

@@ -3,11 +3,11 @@ use Prim.Native.Nat.{ℕ}
 use mathlib.Core.List.{[], _∷_}
 use Rattle.fields.specs.Rules.{rule}
 use Rattle.fields.specs.Slots.{Slots, number, numbers, reserved, end, rest, _▸_, joined}
-use Rattle.headers.specs.Form.{Form, fixed}
+use Rattle.headers.specs.Form.{Form, ruleless}
 use Rattle.lin.specs.declared.message.Message.{Message}
 use Rattle.lin.specs.declared.wake_up.WakeUp.{WakeUp}
 use Rattle.lin.specs.Fields.{tailOk}
-use Rattle.lin.specs.Tail.{tail, FitTail, endSize}
+use Rattle.lin.specs.Tail.{tail, FitTail}
 
 -- what both LIN records begin with (001, 3.1.4)
 unfoldable pub busSlots : {A : Type 0} → (A → ℕ) → (A → ℕ) → (A → ℕ) → Slots A
@@ -71,7 +71,6 @@ messageForm =
     record {
       slots = messageSlots;
       rules = λ r. rule 136 (tailOk (r .tail)) ∷ [];
-      size = λ r. endSize (r .tail);
       Extra = λ r. FitTail (r .tail);
     }
 
@@ -85,4 +84,4 @@ wakeUpSlots =
     ▸ end)
 
 abbrev pub wakeUpForm : Form WakeUp
-wakeUpForm = fixed 52 wakeUpSlots
+wakeUpForm = ruleless wakeUpSlots

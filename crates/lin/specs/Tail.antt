@@ -1,5 +1,5 @@
 -- The three ends of a LIN message as bytes, which tails are valid, and "the size decides which". Offsets from the
--- tail's start, which is 164 in the object.
+-- tail's start, which is 132 in the body.
 use Prim.Native.Nat.{ℕ, _<_, _^_}
 use mathlib.Core.Path.{_≡_}
 use mathlib.Core.Bool.{true}
@@ -29,15 +29,9 @@ FitTail (Response response) = response < 256 ^ 4
 FitTail (Rates response exact header-stop response-stop) =
     (response < 256 ^ 4) × (fits binary64 exact ≡ true) × (header-stop < 256 ^ 4) × (response-stop < 256 ^ 4)
 
--- the size of a LIN message's object, by its end
-abbrev pub endSize : Tail → ℕ
-endSize Nothing = 164
-endSize (Response response) = 168
-endSize (Rates response exact header-stop response-stop) = 184
-
--- "The size decides which": an object's size, and how it ends
-pub record Decides (size : ℕ) (t : Tail) : Type 0 where
-  pub nothing : (size ≡ 164) ↔ (t ≡ Nothing)
-  pub response : (size ≡ 168) ↔ ((response : ℕ) × (t ≡ Response response))
-  pub rates : (size ≡ 184)
+-- "The size decides which": the length of a body, and how it ends
+pub record Decides (n : ℕ) (t : Tail) : Type 0 where
+  pub nothing : (n ≡ 132) ↔ (t ≡ Nothing)
+  pub response : (n ≡ 136) ↔ ((response : ℕ) × (t ≡ Response response))
+  pub rates : (n ≡ 152)
       ↔ ((response : ℕ) × (exact : Float) × (header-stop : ℕ) × (response-stop : ℕ) × (t ≡ Rates response exact header-stop response-stop))

@@ -10,7 +10,6 @@ ghost use Prim.Native.Nat.{_+_, _≤_};
 ghost use lib.ListN.{length};
 ghost use Rattle.fields.specs.Written.{Wrote};
 ghost use Rattle.fields.specs.Slots.{bytesOf};
-ghost use Rattle.headers.specs.Format.{headerOf, bodyOf};
 ghost use Rattle.headers.specs.Form.{bodyFault};
 ghost use Rattle.lin.specs.Tail.{tail};
 ghost use Rattle.lin.specs.Tables.{synchSlots, descriptorSlots, statusSlots, machineSlots, messageSlots};
@@ -57,17 +56,16 @@ pub fn message_fault(b: &[u8]) -> u32
     )
 }
 
-// The message that an object is.
-pub fn get_message(o: &[u8]) -> Message
-    requires { ⌜ 164 ≤ length (now o) ⌝ }
-    ensures { λ r. ⌜ r ≡ messageOf (headerOf (now (o .entry))) (bodyOf (now (o .entry))) ⌝ }
+// The message of a header and a body.
+pub fn get_message(h: headers::Header, b: &[u8]) -> Message
+    requires { ⌜ 132 ≤ length (now b) ⌝ }
+    ensures { λ r. ⌜ r ≡ messageOf h (now (b .entry)) ⌝ }
 {
-    let b = headers::body(o);
     let stamps = fields::get64x9(b, 40);
     let bytes = fields::get8x8(b, 112);
     let tail = get_tail(b);
     Message {
-        header: headers::get_header(o),
+        header: h,
         start: fields::get64(b, 0),
         baud: fields::get32(b, 8),
         channel: fields::get16(b, 12),

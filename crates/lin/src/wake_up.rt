@@ -5,7 +5,6 @@ ghost use Prim.Native.Nat.{_+_, _≤_};
 ghost use lib.ListN.{length};
 ghost use Rattle.fields.specs.Written.{Wrote};
 ghost use Rattle.fields.specs.Slots.{bytesOf};
-ghost use Rattle.headers.specs.Format.{headerOf, bodyOf};
 ghost use Rattle.headers.specs.Form.{bodyFault};
 ghost use Rattle.lin.specs.Tables.{wakeUpSlots};
 ghost use Rattle.lin.specs.Fields.{wakeUpOf, wakeUpFormat};
@@ -30,14 +29,13 @@ pub fn wake_up_fault(b: &[u8]) -> u32
     headers::first(8, early, headers::first(8, late, 0))
 }
 
-// The wake-up that an object is.
-pub fn get_wake_up(o: &[u8]) -> WakeUp
-    requires { ⌜ 52 ≤ length (now o) ⌝ }
-    ensures { λ r. ⌜ r ≡ wakeUpOf (headerOf (now (o .entry))) (bodyOf (now (o .entry))) ⌝ }
+// The wake-up of a header and a body.
+pub fn get_wake_up(h: headers::Header, b: &[u8]) -> WakeUp
+    requires { ⌜ 20 ≤ length (now b) ⌝ }
+    ensures { λ r. ⌜ r ≡ wakeUpOf h (now (b .entry)) ⌝ }
 {
-    let b = headers::body(o);
     WakeUp {
-        header: headers::get_header(o),
+        header: h,
         start: fields::get64(b, 0),
         baud: fields::get32(b, 8),
         channel: fields::get16(b, 12),

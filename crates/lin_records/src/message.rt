@@ -1,5 +1,4 @@
 // LIN message 2, type 57.
-use headers::Header;
 use objects::Cursor;
 use outcomes::ReadAnswer;
 use outcomes::Written;
@@ -12,7 +11,7 @@ ghost use Rattle.outcomes.specs.Writes.{Outcome};
 const KIND: u32 = headers::LIN_MESSAGE;
 
 // Without a tail.
-const SIZE: usize = 164;
+const BODY: usize = 132;
 
 // What a read is told, the next cursor, and the record: zeros but where it is told of one.
 pub struct MessageRead {
@@ -25,10 +24,10 @@ pub struct MessageRead {
 pub fn message_in(o: &[u8]) -> lin::Message
     ensures { λ r. ⌜ r ≡ recordIn linMessage (now (o .entry)) ⌝ }
 {
-    if o.len() < SIZE {
-        return lin::get_message(&[0u8; SIZE]);
+    if !headers::holds(o, BODY) {
+        return lin::get_message(headers::no_header(), &[0u8; BODY]);
     }
-    lin::get_message(o)
+    lin::get_message(headers::get_header(o), headers::body(o))
 }
 
 // The LIN message at the cursor.
@@ -48,12 +47,12 @@ pub fn write_message(r: lin::Message, out: &mut [u8]) -> Written
 {
     let h = r.header;
     let tail = r.tail;
-    let size = SIZE as u32 + lin::tail_length(tail) as u32;
+    let n = BODY + lin::tail_length(tail);
     let rates = lin::tail_ok(tail);
-    let number = outcomes::begin(out, KIND, h, rates, size);
+    let number = outcomes::begin(out, KIND, h, rates, n);
     if number != 0 {
         return Written::Refused { number, place: 0 };
     }
-    lin::put_message(out, Header::LENGTH, r);
-    outcomes::pad(out, size)
+    lin::put_message(out, headers::length(h), r);
+    outcomes::pad(out, headers::size(h, n))
 }

@@ -1,5 +1,4 @@
 // LIN wake-up 2, type 62.
-use headers::Header;
 use objects::Cursor;
 use outcomes::ReadAnswer;
 use outcomes::Written;
@@ -11,7 +10,7 @@ ghost use Rattle.outcomes.specs.Writes.{Outcome};
 
 const KIND: u32 = headers::LIN_WAKE_UP;
 
-const SIZE: usize = 52;
+const BODY: usize = 20;
 
 // What a read is told, the next cursor, and the record: zeros but where it is told of one.
 pub struct WakeUpRead {
@@ -24,10 +23,10 @@ pub struct WakeUpRead {
 pub fn wake_up_in(o: &[u8]) -> lin::WakeUp
     ensures { λ r. ⌜ r ≡ recordIn wakeUp (now (o .entry)) ⌝ }
 {
-    if o.len() < SIZE {
-        return lin::get_wake_up(&[0u8; SIZE]);
+    if !headers::holds(o, BODY) {
+        return lin::get_wake_up(headers::no_header(), &[0u8; BODY]);
     }
-    lin::get_wake_up(o)
+    lin::get_wake_up(headers::get_header(o), headers::body(o))
 }
 
 // The wake-up at the cursor.
@@ -46,10 +45,10 @@ pub fn write_wake_up(r: lin::WakeUp, out: &mut [u8]) -> Written
     ensures { λ w. ⌜ Outcome (known wakeUp r) w (now (out .entry)) (now (out .exit)) ⌝ }
 {
     let h = r.header;
-    let number = outcomes::begin(out, KIND, h, true, SIZE as u32);
+    let number = outcomes::begin(out, KIND, h, true, BODY);
     if number != 0 {
         return Written::Refused { number, place: 0 };
     }
-    lin::put_wake_up(out, Header::LENGTH, r);
-    outcomes::pad(out, SIZE as u32)
+    lin::put_wake_up(out, headers::length(h), r);
+    outcomes::pad(out, headers::size(h, BODY))
 }

@@ -32,21 +32,10 @@ pub fn overload() -> [u8; 36]
 pub fn overloads() -> [u8; 72]
     ensures { λ r. ⌜ 72 ≡ length r ⌝ }
 {
+    let one = overload();
     let mut log = [0u8; 72];
-    can_records::write_overload(
-        can::Overload {
-            header: header(),
-            channel: 1,
-        },
-        &mut log,
-    );
-    fields::put32(&mut log, 36, Header::SIGNATURE);
-    fields::put16(&mut log, 40, 32);
-    fields::put16(&mut log, 42, 1);
-    fields::put32(&mut log, 44, 36);
-    fields::put32(&mut log, 48, 3);
-    fields::put32(&mut log, 52, 2);
-    fields::put16(&mut log, 68, 1);
+    fields::put_bytes(&mut log, 0, &one);
+    fields::put_bytes(&mut log, 36, &one);
     log
 }
 

@@ -12,8 +12,8 @@ use Rattle.fields.specs.Numbers.{val, num, big, nums, allZero}
 use Rattle.fields.specs.Digits.{le}
 use Rattle.fields.specs.Slots as slots
 use Rattle.fields.proofs.Zeros.{both-true}
-use Rattle.headers.specs.Format.{padding, headerOf, unitOk}
-use Rattle.headers.specs.Types.{typeList, sizesIn}
+use Rattle.headers.specs.Format.{padding, lengthAt, headerOf, unitOk}
+use Rattle.headers.specs.Types.{typeList}
 use Rattle.headers.specs.Rows.{rowIn, allowed}
 use Rattle.headers.specs.Header as header
 use Rattle.headers.specs.HeadTests.{first, headerFits}
@@ -115,7 +115,7 @@ refuted (w ∷ ws) e =
     (differ (w .tried) (not-true _ (h .0)), refuted ws (h .1))
 
 computed : noneSame wrongs ≡ true
-unfolding noneSame same wrongs m2 m9 m11 m12 seventeen unclean wrapping lin168 otherSize otherType strayAndTwice twenty hex walkOf metAt nextAt answered faultOf find headerOf unitOk typeList sizesIn rowIn allowed headerFits first padding num val nums le allZero lookAt recordIn recordAt overloadOf tailOf messageOf header.object header.header header.head slots.bytesOf overloadSlots bytesOf refusalOf checkOf cutOf cut.faultOf shapeOk big troubleOf
+unfolding noneSame same wrongs m2 m9 m11 m12 seventeen unclean wrapping lin168 otherSize otherType strayAndTwice twenty hex walkOf metAt nextAt answered faultOf find lengthAt headerOf unitOk typeList rowIn allowed headerFits first padding num val nums le allZero lookAt recordIn recordAt overloadOf tailOf messageOf header.object header.lengthOf header.header header.head slots.bytesOf overloadSlots bytesOf refusalOf checkOf cutOf cut.faultOf shapeOk big troubleOf
 computed = refl
 
 pub all-refuted : AllRefuted wrongs

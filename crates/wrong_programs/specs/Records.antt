@@ -1,8 +1,9 @@
 -- 01, "What a reader of the contracts must find" and "Slips of the pen": wrong readers and writers of records.
-use Prim.Native.Nat.{ℕ}
+use Prim.Native.Nat.{ℕ, _+_}
 use mathlib.Core.List.{List}
-use lib.ListN.{length}
+use lib.ListN.{length, drop}
 use Rattle.fields.specs.Numbers.{part}
+use Rattle.headers.specs.Format.{lengthAt}
 use Rattle.headers.specs.Types.{Kind, linMessage}
 use Rattle.objects.specs.Kinds.{Record}
 use Rattle.objects.specs.Items.{Item, padded}
@@ -14,9 +15,9 @@ use Rattle.outcomes.specs.Reads.{recordIn}
 abbrev pub constant : (k : Kind) → Record k → List ℕ → ℕ → Record k
 constant k r s at = r
 
--- reads every LIN message as one of 184 bytes, with an exact rate
+-- reads every LIN message as one with an exact rate, whose body has 152 bytes
 abbrev pub exactRate : List ℕ → ℕ → Record linMessage
-exactRate s at = recordIn linMessage (part 184 s at)
+exactRate s at = recordIn linMessage (part (lengthAt (drop at s) + 152) s at)
 
 -- answers success and leaves the buffer as it was
 abbrev pub writesNothing : Item → List ℕ → Written × List ℕ

@@ -4,7 +4,8 @@
 //! other words. This crate was written from the paper alone. Where that can be
 //! read in two ways, points 1 to 15 of docs/DECISIONS.md hold.
 //!
-//! * [`layout`]: header, type list, padding, refusal numbers
+//! * [`header`]: the header and its length
+//! * [`layout`]: type list, padding, refusal numbers
 //! * [`object`]: the next object, the walk, the views
 //! * [`records`]: reading and writing one record of each type
 //! * [`slips`]: the check of a bundle against a log
@@ -17,6 +18,7 @@
 #![warn(missing_docs)]
 
 pub mod gen;
+pub mod header;
 pub mod layout;
 #[cfg(feature = "speed")]
 #[allow(unsafe_code)]

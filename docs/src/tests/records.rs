@@ -3,6 +3,7 @@
 mod common;
 use common::*;
 use mshelovat_reference::gen::{self, Rng};
+use mshelovat_reference::header::header_length;
 use mshelovat_reference::layout::{row, Refusal};
 use mshelovat_reference::object::{foreign_view, walk};
 use mshelovat_reference::records::*;
@@ -34,11 +35,10 @@ fn counted(kind: u32, size: u32) -> Vec<u8> {
     for (at, byte) in object.iter_mut().enumerate().take(size as usize).skip(20) {
         *byte = (at * 7 % 251) as u8;
     }
-    row(kind)
-        .unwrap()
-        .reserved
-        .iter()
-        .for_each(|at| object[*at] = 0);
+    let body = header_length(&object);
+    for at in row(kind).unwrap().reserved {
+        object[body + at] = 0;
+    }
     match kind {
         50 => object[56..58].copy_from_slice(&[200, 0]),
         57 if size == 184 => object[175] = 0x40,

@@ -3,6 +3,7 @@
 
 mod common;
 use common::*;
+use mshelovat_reference::header::{body, header_length};
 use mshelovat_reference::layout::{row, TYPE_LIST};
 use mshelovat_reference::object::{foreign_view, frame_view, rest, step, walk, Answer};
 use mshelovat_reference::records::*;
@@ -33,6 +34,15 @@ fn signature_every_byte() {
         log[at] ^= 0x20;
         assert_eq!(walk(&log), refused(2, 0));
     }
+}
+
+#[test]
+fn any_bytes_have_a_header_length() {
+    for bytes in [vec![], vec![0xFF; 7], foreign(16, 16), m2()] {
+        assert_eq!(header_length(&bytes), 32);
+    }
+    assert_eq!(Head::default().length(), 32);
+    assert_eq!(body(&m2()), [1, 0, 0, 0]);
 }
 
 #[test]

@@ -1,5 +1,6 @@
 //! The cases: by a sweep over every byte, length and room of one object of each type and of a bundle, and at random.
 use mshelovat_reference::gen::{self, Rng, DAMAGES, FAULTS, LISTED};
+use mshelovat_reference::header::header_length;
 use mshelovat_reference::layout::{occupied, put, u32_at};
 use mshelovat_reference::object::{step, Answer};
 
@@ -108,11 +109,12 @@ fn one_of_each(rng: &mut Rng) -> Vec<Vec<u8>> {
     objects
 }
 
-/// A small sound object of a type, of another size than those that are there.
+/// A small sound object of a type, no longer than a FlexRay receive's, of another size than those that are there.
 fn another(rng: &mut Rng, kind: u32, objects: &[Vec<u8>]) -> Vec<u8> {
     loop {
         let object = gen::object(rng, kind);
-        let small = object.len() <= 330 && (kind < 120 || object.len() % 4 == 1);
+        let small =
+            object.len() <= header_length(&object) + 298 && (kind < 120 || object.len() % 4 == 1);
         let there = |o: &Vec<u8>| u32_at(o, 12) == kind && o.len() == object.len();
         if small && !objects.iter().any(there) {
             return object;

@@ -1,7 +1,8 @@
 //! Bundles, honest and damaged.
 
 use super::Rng;
-use crate::layout::{padding, SLIP_LIMIT};
+use crate::header::Head;
+use crate::layout::{kind, padding, SLIP_LIMIT};
 use crate::object::{step, Answer};
 use crate::slips::Entry;
 
@@ -265,11 +266,12 @@ fn stray_top(rng: &mut Rng, objects: &[Entry]) -> Entry {
     }
 }
 
+/// One that names an object; where there is none, an overload at 0.
 fn an_entry(rng: &mut Rng, objects: &[Entry]) -> Entry {
     let none = Entry {
         start: 0,
-        size: 36,
-        kind: 3,
+        size: Head::default().length() as u32 + 4,
+        kind: kind::CAN_OVERLOAD,
     };
     if objects.is_empty() {
         none

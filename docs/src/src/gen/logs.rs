@@ -1,6 +1,7 @@
 //! Objects and logs, sound and damaged.
 
 use super::{frame, record, Rng};
+use crate::header::{body, header_length, SIGNATURE};
 use crate::layout::*;
 use crate::object::{has_frame, step, Answer};
 use crate::records::write_any;
@@ -120,7 +121,7 @@ pub enum Damage {
     Reserved,
     /// Structure length not 32.
     StructureLength,
-    /// Frame length not size minus 64.
+    /// Frame length not that of the frame.
     FrameLength,
     /// Data count above 254 or above byte count.
     DataCount,
@@ -193,45 +194,74 @@ impl Damage {
             Damage::Reserved => row(kind).is_some_and(|row| !row.reserved.is_empty()),
             Damage::StructureLength | Damage::FrameLength => has_frame(kind),
             Damage::DataCount => kind == kind::FLEXRAY_RECEIVE,
-            Damage::ExactRate => kind == kind::LIN_MESSAGE && object.len() == 184,
+            Damage::ExactRate => kind == kind::LIN_MESSAGE && body(object).len() == 152,
             _ => true,
         }
     }
 
-    /// Damages an object (padding included) that starts here in its log. Size
-    /// and type are those it had when it was sound.
-    fn befall(self, rng: &mut Rng, piece: &mut [u8], start: usize, size: u32, kind: u32) {
+    /// Damages an object (padding included) that was this when it was sound.
+    fn befall(self, rng: &mut Rng, piece: &mut [u8], was: &Sound) {
         match self {
             Damage::Signature => piece[rng.below(4)] ^= rng.nonzero(),
             Damage::SmallSize => put_size(piece, rng.below(16) as u32),
-            Damage::WrongSize => put_size(piece, wrong_size(rng, kind, size)),
+            Damage::WrongSize => put_size(piece, wrong_size(rng, was)),
             Damage::TopSize => put_size(piece, u32::MAX - rng.below(64) as u32),
-            Damage::WrapSize => put_size(piece, wrapping_size(rng, start)),
-            Damage::HeaderSize => {
-                let header_size = wrong_header_size(rng, kind, size);
-                put(piece, 4, &header_size.to_le_bytes());
-            }
+            Damage::WrapSize => put_size(piece, wrapping_size(rng, was.start)),
+            Damage::HeaderSize => put(piece, 4, &wrong_header_size(rng, was).to_le_bytes()),
             Damage::HeaderVersion => put(piece, 6, &other(rng, 1).to_le_bytes()),
             Damage::Padding => {
-                let at = rng.from_to(size as usize, piece.len() - 1);
+                let at = rng.from_to(was.size as usize, piece.len() - 1);
                 piece[at] = rng.nonzero();
             }
             Damage::Unit => put(piece, 16, &wrong_unit(rng).to_le_bytes()),
             Damage::Reserved => {
-                let reserved = row(kind).expect("a listed type").reserved;
-                piece[rng.pick(reserved)] = rng.nonzero();
+                let reserved = row(was.kind).expect("a listed type").reserved;
+                was.body(piece)[rng.pick(reserved)] = rng.nonzero();
             }
-            Damage::StructureLength => put(piece, 32, &other(rng, 32).to_le_bytes()),
+            Damage::StructureLength => {
+                let length = other(rng, STRUCTURE_LENGTH);
+                put(was.body(piece), 0, &length.to_le_bytes());
+            }
             Damage::FrameLength => {
-                let length = other(rng, u16_at(piece, 54));
-                put(piece, 54, &length.to_le_bytes());
+                let body = was.body(piece);
+                let length = other(rng, u16_at(body, 22));
+                put(body, 22, &length.to_le_bytes());
             }
-            Damage::DataCount => break_counts(rng, piece),
-            Damage::ExactRate => put(piece, 168, &wrong_rate(rng).to_le_bytes()),
-            Damage::Kind => put(piece, 12, &other_kind(rng, kind).to_le_bytes()),
+            Damage::DataCount => break_counts(rng, was.body(piece)),
+            Damage::ExactRate => put(was.body(piece), 136, &wrong_rate(rng).to_le_bytes()),
+            Damage::Kind => put(piece, 12, &other_kind(rng, was.kind).to_le_bytes()),
             Damage::AnyByte => piece[rng.below(piece.len())] ^= rng.nonzero(),
             Damage::CutShort | Damage::LooseEnd => {}
         }
+    }
+}
+
+/// An object as it was when it was sound, whatever its bytes say now.
+struct Sound {
+    /// Its first byte in the log.
+    start: usize,
+    /// How long its header is, where it is of the eleven types.
+    header: usize,
+    /// Its size without the padding.
+    size: u32,
+    /// Its type number.
+    kind: u32,
+}
+
+impl Sound {
+    /// This object, to be put here in its log.
+    fn new(object: &[u8], start: usize) -> Sound {
+        Sound {
+            start,
+            header: header_length(object),
+            size: u32_at(object, 8),
+            kind: u32_at(object, 12),
+        }
+    }
+
+    /// Its bytes behind the header.
+    fn body<'a>(&self, piece: &'a mut [u8]) -> &'a mut [u8] {
+        &mut piece[self.header..]
     }
 }
 
@@ -253,17 +283,20 @@ fn other(rng: &mut Rng, value: u16) -> u16 {
     }
 }
 
-fn wrong_size(rng: &mut Rng, kind: u32, size: u32) -> u32 {
-    let sizes = row(kind).expect("a listed type").sizes;
+fn wrong_size(rng: &mut Rng, was: &Sound) -> u32 {
+    let bodies = row(was.kind).expect("a listed type").bodies;
     loop {
         let wrong = match rng.below(5) {
-            0 => size.wrapping_add(rng.from_to(1, 8) as u32),
-            1 => size.wrapping_sub(rng.from_to(1, 8) as u32),
-            2 => rng.pick(&[63, 1_677, 36, 48, 52, 60, 164, 168, 184, 330, 332]),
+            0 => was.size.wrapping_add(rng.from_to(1, 8) as u32),
+            1 => was.size.wrapping_sub(rng.from_to(1, 8) as u32),
+            2 => {
+                let length = rng.pick(&[31, 1_645, 4, 16, 20, 28, 132, 136, 152, 298, 300]);
+                (was.header + length) as u32
+            }
             3 => rng.from_to(16, 1_700) as u32,
             _ => rng.number() as u32,
         };
-        if !sizes.allow(wrong) {
+        if !bodies.allow(was.header, wrong) {
             return wrong;
         }
     }
@@ -280,14 +313,14 @@ fn wrapping_size(rng: &mut Rng, start: usize) -> u32 {
     }
 }
 
-fn wrong_header_size(rng: &mut Rng, kind: u32, size: u32) -> u16 {
-    if row(kind).is_some() {
-        return other(rng, HEADER_SIZE);
+fn wrong_header_size(rng: &mut Rng, was: &Sound) -> u16 {
+    if row(was.kind).is_some() {
+        return other(rng, was.header as u16);
     }
     match rng.below(3) {
         0 => rng.below(16) as u16,
-        1 => size as u16 + 1,
-        _ => rng.from_to(size as usize + 1, 65_535) as u16,
+        1 => was.size as u16 + 1,
+        _ => rng.from_to(was.size as usize + 1, 65_535) as u16,
     }
 }
 
@@ -312,7 +345,7 @@ fn wrong_rate(rng: &mut Rng) -> u64 {
     }
 }
 
-fn break_counts(rng: &mut Rng, piece: &mut [u8]) {
+fn break_counts(rng: &mut Rng, body: &mut [u8]) {
     let (byte_count, data_count) = match rng.below(3) {
         0 => (rng.number() as u16, rng.from_to(255, 260) as u16),
         1 => (65_535, rng.from_to(255, 65_535) as u16),
@@ -321,8 +354,8 @@ fn break_counts(rng: &mut Rng, piece: &mut [u8]) {
             (rng.below(data_count) as u16, data_count as u16)
         }
     };
-    put(piece, 54, &byte_count.to_le_bytes());
-    put(piece, 56, &data_count.to_le_bytes());
+    put(body, 22, &byte_count.to_le_bytes());
+    put(body, 24, &data_count.to_le_bytes());
 }
 
 fn other_kind(rng: &mut Rng, kind: u32) -> u32 {
@@ -354,15 +387,14 @@ fn victim(rng: &mut Rng, damage: Damage) -> Vec<u8> {
 fn damaged_by(rng: &mut Rng, count: usize, sound: Vec<u8>, ways: &[Damage]) -> (Vec<u8>, usize) {
     let before = rng.below(count + 1);
     let mut log = sound_log(rng, before);
-    let start = log.len();
-    let (size, kind) = (u32_at(&sound, 8), u32_at(&sound, 12));
+    let was = Sound::new(&sound, log.len());
     let mut piece = padded(sound);
     for damage in ways {
-        damage.befall(rng, &mut piece, start, size, kind);
+        damage.befall(rng, &mut piece, &was);
     }
     log.extend(piece);
     log.extend(sound_log(rng, count - before));
-    let mut place = start;
+    let mut place = was.start;
     if ways.contains(&Damage::LooseEnd) {
         place = log.len();
         let loose = rng.from_to(1, 15);

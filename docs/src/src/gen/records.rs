@@ -1,6 +1,7 @@
 //! Records of every type.
 
 use super::Rng;
+use crate::header::header_length;
 use crate::layout::{kind, put, row, FLEXRAY_DATA, FRAME_LIMIT};
 use crate::object::has_frame;
 use crate::records::*;
@@ -66,13 +67,14 @@ pub fn raw_object(rng: &mut Rng, kind: u32) -> Vec<u8> {
 
 /// Rubbish over what is no field of the record.
 fn spoil_fixed(rng: &mut Rng, object: &mut [u8], kind: u32) {
-    put(object, 0, &rng.array::<12>());
+    let (header, body) = object.split_at_mut(header_length(object));
+    put(header, 0, &rng.array::<12>());
     for offset in row(kind).expect("a listed type").reserved {
-        object[*offset] = rng.byte();
+        body[*offset] = rng.byte();
     }
     if has_frame(kind) {
-        put(object, 32, &rng.array::<2>());
-        put(object, 54, &rng.array::<2>());
+        put(body, 0, &rng.array::<2>());
+        put(body, 22, &rng.array::<2>());
     }
 }
 

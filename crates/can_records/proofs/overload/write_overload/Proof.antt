@@ -1,32 +1,35 @@
 -- `can_records::write_overload` meets its contract: refused, or header, body and padding; what is not refused is valid.
 -- Assumes nothing.
-use mathlib.Core.Path.{refl}
+use mathlib.Core.Path.{refl, sym}
 use native.Mathlib.Omega.{arith}
 use borrow.Author.Needs.{needs}
-use Rattle.can.proofs.KnownLaws.{overload-known}
 use Rattle.headers.specs.Types.{overload}
-use Rattle.outcomes.proofs.Writing.{taken, refuses, ends}
+use Rattle.headers.proofs.TypeKinds as list
+use Rattle.can.proofs.Laws.{overload-length}
+use Rattle.can.proofs.KnownLaws.{overload-known}
+use Rattle.outcomes.proofs.Writing.{taken, refuses, body-room, pad-room, ends}
 use Rattle.can_records.proofs.overload.write_overload.Statement.{statement}
 use Rattle.can_records.proofs.overload.write_overload.Tie as tie
 
 returns : tie.Need-returns
-returns c = refuses overload _ (c .before .before .before .begin .ensures) refl refl refl (c .if1 .taken)
+returns c = refuses overload _ (c .before .before .before .begin .ensures) refl refl (sym (overload-length (c .before .before .before .before .before .before .before .args .r))) (c .if1 .taken)
 
 put-overload-requires : tie.Need-put-overload-requires
-put-overload-requires c κs = omega (arith, taken (c .before .before .before .before .begin .ensures .number) (c .before .if1 .left) .room)
+put-overload-requires c κs = omega (arith, body-room overload _ (c .before .before .before .before .before .begin .ensures) refl refl (sym (overload-length (c .before .before .before .before .before .before .before .before .before .args .r))) (c .before .before .if1 .left) (c .length .ensures))
 
 pad-requires : tie.Need-pad-requires
-pad-requires c κs = omega (arith, taken (c .before .before .before .before .before .before .before .before .begin .ensures .number) (c .before .before .before .before .before .if1 .left) .room)
+pad-requires c κs = omega (arith, pad-room overload _ (c .before .before .before .before .before .before .before .before .before .before .begin .ensures) refl refl (sym (overload-length (c .before .before .before .before .before .before .before .before .before .before .before .before .before .before .args .r))) (c .before .before .before .before .before .before .before .if1 .left) (c .size .ensures))
 
 returns-2 : tie.Need-returns-2
 returns-2 c =
-    let s = c .before .before .before .before .before .before .before .before .before .before .before .before .before .before .before in
-    let b = c .before .before .before .before .before .before .before .before .before .before .before .begin .ensures in
-    let m = c .before .before .before .before .before .before .before .before .if1 .left in
-    let v = overload-known (s .args .r) (s .good .0) (taken (b .number) m .unit) in
-    ends overload (s .args .r) b refl refl refl m v (c .before .before .before .before .before .before .put-overload .ensures) (c .before .before .pad .ensures)
+    let s = c .before .before .before .before .before .before .before .before .before .before .before .before .before .before .before .before .before in
+    let r = s .args .r in
+    let b = c .before .before .before .before .before .before .before .before .before .before .before .before .before .begin .ensures in
+    let z = c .before .before .before .before .before .before .before .before .before .before .if1 .left in
+    let v = overload-known r (s .good .0) (taken (b .number) z .unit) in
+    ends overload r b refl refl (sym (overload-length r)) z v (c .before .before .before .before .before .before .before .before .length .ensures) (c .before .before .before .size .ensures) (c .before .before .before .before .before .before .before .put-overload .ensures) (c .before .before .pad .ensures)
 
 pub write-overload-spec : {M : Type 1} → statement M
 write-overload-spec =
     tie.close
-    (tie.spec (λ c. search needs) (λ c κs. search needs) (λ c. search needs) returns put-overload-requires (λ c. search needs) pad-requires (λ c. search needs) returns-2)
+    (tie.spec (λ c κs. list.known overload) (λ c. search needs) returns (λ c κs. search needs) put-overload-requires (λ c κs. search needs) pad-requires (λ c. search needs) returns-2)

@@ -7,9 +7,8 @@ use Rattle.ethernet.proofs.frame.get_frame.Tie as tie
 returns : tie.Need-returns
 unfolding frameOf
 returns c =
-    let header = c .before .before .before .before .before .before .before in
-    rw (← header .get-header .ensures, ← header .before .body .ensures .0) (λ i. record {
-      header = header .get-header .result;
+    λ i. record {
+      header = c .before .before .before .before .before .before .before .before .args .h;
       flags = c .before .before .before .before .before .before .get16 .ensures i;
       channel = c .before .before .before .before .before .get162 .ensures i;
       hardware = c .before .before .before .before .get163 .ensures i;
@@ -17,9 +16,9 @@ returns c =
       checksum = c .before .before .get32 .ensures i;
       direction = c .before .get164 .ensures i;
       handle = c .get322 .ensures i;
-    })
+    }
 
 pub get-frame-spec : {M : Type 1} → statement M
 get-frame-spec =
     tie.close
-    (tie.spec (λ c κs. search needs) (λ c κs. search needs) (λ c κs. search needs) (λ c κs. search needs) (λ c κs. search needs) (λ c κs. search needs) (λ c κs. search needs) (λ c κs. search needs) (λ c κs. search needs) returns)
+    (tie.spec (λ c κs. search needs) (λ c κs. search needs) (λ c κs. search needs) (λ c κs. search needs) (λ c κs. search needs) (λ c κs. search needs) (λ c κs. search needs) returns)

@@ -7,9 +7,8 @@ use Rattle.ethernet.proofs.status.get_status.Tie as tie
 returns : tie.Need-returns
 unfolding statusOf
 returns c =
-    let header = c .before .before .before .before .before .before .before .before .before .before .before in
-    rw (← header .get-header .ensures, ← header .before .body .ensures .0) (λ i. record {
-      header = header .get-header .result;
+    λ i. record {
+      header = c .before .before .before .before .before .before .before .before .before .before .before .before .args .h;
       channel = c .before .before .before .before .before .before .before .before .before .before .get16 .ensures i;
       flags = c .before .before .before .before .before .before .before .before .before .get162 .ensures i;
       link = c .before .before .before .before .before .before .before .before .get8 .ensures i;
@@ -21,9 +20,9 @@ returns c =
       pairs = c .before .before .get87 .ensures i;
       hardware = c .before .get88 .ensures i;
       bitrate = c .get32 .ensures i;
-    })
+    }
 
 pub get-status-spec : {M : Type 1} → statement M
 get-status-spec =
     tie.close
-    (tie.spec (λ c κs. search needs) (λ c κs. search needs) (λ c κs. search needs) (λ c κs. search needs) (λ c κs. search needs) (λ c κs. search needs) (λ c κs. search needs) (λ c κs. search needs) (λ c κs. search needs) (λ c κs. search needs) (λ c κs. search needs) (λ c κs. search needs) (λ c κs. search needs) returns)
+    (tie.spec (λ c κs. search needs) (λ c κs. search needs) (λ c κs. search needs) (λ c κs. search needs) (λ c κs. search needs) (λ c κs. search needs) (λ c κs. search needs) (λ c κs. search needs) (λ c κs. search needs) (λ c κs. search needs) (λ c κs. search needs) returns)

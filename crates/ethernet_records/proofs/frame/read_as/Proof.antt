@@ -1,7 +1,7 @@
 -- `ethernet_records::frame::read_as` meets its contract: the record of what a look cut out of the log; of the two types
 -- it is the same. Assumes nothing.
 use borrow.Author.Needs.{needs}
-use Rattle.headers.specs.Types.{frame, forwardedFrame, typeList, sizesIn}
+use Rattle.headers.specs.Types.{frame, forwardedFrame}
 use Rattle.outcomes.specs.Reads.{recordIn}
 use Rattle.outcomes.proofs.Looks.{look-within}
 use Rattle.outcomes.proofs.Reading.{reads-as}
@@ -12,7 +12,7 @@ cut-requires : tie.Need-cut-requires
 cut-requires c κs = look-within _ _ _ (c .look .ensures)
 
 returns : tie.Need-returns
-unfolding recordIn typeList sizesIn
+unfolding recordIn
 returns c =
     let l = c .before .before .before .look .ensures in
     let o = c .before .before .cut .ensures in

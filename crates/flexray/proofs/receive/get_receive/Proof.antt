@@ -21,10 +21,9 @@ returns c =
     let mask = direction .before in
     let version = mask .before in
     let channel = version .before in
-    let header = channel .before in
-    let bytes = header .before in
-    rw (← header .get-header .ensures, ← bytes .before .body .ensures .0) (λ k. record {
-      header = header .get-header .result;
+    let bytes = channel .before in
+    λ k. record {
+      header = bytes .before .before .args .h;
       channel = channel .get16 .ensures k;
       version = version .get162 .ensures k;
       mask = mask .get163 .ensures k;
@@ -41,9 +40,9 @@ returns c =
       state = state .get324 .ensures k;
       flags = c .get325 .ensures k;
       bytes = bytes .get8x254 .ensures k;
-    })
+    }
 
 pub get-receive-spec : {M : Type 1} → statement M
 get-receive-spec =
     tie.close
-    (tie.spec (λ c κs. search needs) (λ c κs. search needs) (λ c κs. search needs) (λ c κs. search needs) (λ c κs. search needs) (λ c κs. search needs) (λ c κs. search needs) (λ c κs. search needs) (λ c κs. search needs) (λ c κs. search needs) (λ c κs. search needs) (λ c κs. search needs) (λ c κs. search needs) (λ c κs. search needs) (λ c κs. search needs) (λ c κs. search needs) (λ c κs. search needs) (λ c κs. search needs) returns)
+    (tie.spec (λ c κs. search needs) (λ c κs. search needs) (λ c κs. search needs) (λ c κs. search needs) (λ c κs. search needs) (λ c κs. search needs) (λ c κs. search needs) (λ c κs. search needs) (λ c κs. search needs) (λ c κs. search needs) (λ c κs. search needs) (λ c κs. search needs) (λ c κs. search needs) (λ c κs. search needs) (λ c κs. search needs) (λ c κs. search needs) returns)

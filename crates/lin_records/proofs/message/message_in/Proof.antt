@@ -1,17 +1,18 @@
 -- `lin_records::message_in` meets its contract: the object's record, or the record of zeros. Assumes nothing.
 use borrow.Author.Needs.{needs}
-use Rattle.headers.specs.Types.{linMessage, typeList, sizesIn}
+use Rattle.headers.specs.Types.{linMessage}
+use Rattle.headers.proofs.Bodies.{header-held, body-held}
 use Rattle.outcomes.proofs.Reading.{in-long, in-short}
 use Rattle.lin_records.proofs.message.message_in.Statement.{statement}
 use Rattle.lin_records.proofs.message.message_in.Tie as tie
 
 returns : tie.Need-returns
-unfolding typeList sizesIn
-returns c = in-short linMessage _ (c .before .before .if1 .taken) (c .get-message .ensures)
+returns c = in-short linMessage _ (λ r. r) (c .before .before .before .before .holds .ensures) (c .before .before .before .if1 .taken) (c .before .before .no-header .ensures) (c .get-message .ensures)
 
 returns-2 : tie.Need-returns-2
-unfolding typeList sizesIn
-returns-2 c = in-long linMessage _ (c .before .if1 .left) (c .get-message2 .ensures)
+returns-2 c = in-long linMessage _ (λ r. r) (c .before .before .before .before .holds .ensures) (c .before .before .before .if1 .left) (c .before .before .get-header .ensures) (c .before .body .ensures) (c .get-message2 .ensures)
 
 pub message-in-spec : {M : Type 1} → statement M
-message-in-spec = tie.close (tie.spec (λ c. search needs) (λ c κs. search needs) returns (λ c κs. search needs) returns-2)
+message-in-spec =
+    tie.close
+    (tie.spec (λ c κs. search needs) (λ c κs. search needs) (λ c. search needs) (λ c κs. search needs) returns (λ c κs. header-held _ _ (c .before .holds .ensures) (c .if1 .left)) (λ c κs. header-held _ _ (c .before .before .holds .ensures) (c .before .if1 .left)) (λ c κs. body-held _ _ (c .before .before .before .holds .ensures) (c .body .ensures) (c .before .before .if1 .left)) returns-2)
