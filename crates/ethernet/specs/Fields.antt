@@ -1,4 +1,5 @@
--- 01, types 103 and 120 to 123: where the fields of the Ethernet records stand. Offsets and lengths from the header's end.
+-- 01, types 103 and 120 to 123: where the fields of the Ethernet records stand. Offsets and lengths from the header's
+-- end.
 use Prim.Native.Nat.{ℕ, _-_}
 use mathlib.Core.List.{List, [], _∷_}
 use lib.Dec.{eqb, leb}

@@ -1,5 +1,5 @@
--- `ethernet_records::write_status` meets its contract: refused, or header, body and padding; what is not refused is valid.
--- Assumes nothing.
+-- `ethernet_records::write_status` meets its contract: refused, or header, body and padding; what is not refused is
+-- valid. Assumes nothing.
 use mathlib.Core.Path.{refl, sym}
 use native.Mathlib.Omega.{arith}
 use borrow.Author.Needs.{needs}
