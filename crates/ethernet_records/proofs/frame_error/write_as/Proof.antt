@@ -1,5 +1,5 @@
--- `ethernet_records::frame_error::write_as` meets its contract: refused, or header, body and padding; what is not refused
--- is valid. Assumes nothing.
+-- `ethernet_records::frame_error::write_as` meets its contract: refused, or header, body and padding; what is not
+-- refused is valid. Assumes nothing.
 use mathlib.Core.Path.{refl, sym}
 use mathlib.Core.Logic.{⊎-elim}
 use Prim.Native.Nat.{_≤_}
