@@ -3,9 +3,9 @@
  *
  * Each call returns a number and writes its values to the front of the numbers lent to it; what stands behind them
  * stays as it was, and so it is with lent bytes and entries. Numbers: 0 is yes; 1 to 9 refuse the log, 7, 9, 10 and 11
- * a write and 20 to 28 the slips, as docs/FORMAT.md lists them; MSHELOVAT_ROOM says that too few numbers were lent, or
- * too few bytes: where too few numbers, nothing is written; MSHELOVAT_DONE is the log's end, MSHELOVAT_OTHER an object
- * of another type.
+ * a write, 20 to 28 the slips and 30, MSHELOVAT_LINE, a text, as docs/FORMAT.md lists them; MSHELOVAT_ROOM says that
+ * too few numbers were lent, or too few bytes: where too few numbers, nothing is written; MSHELOVAT_DONE is the log's
+ * end, MSHELOVAT_OTHER an object of another type.
  *
  * No call asks for more than what C itself asks: a pointer is not null and its bytes are readable (what is lent to be
  * written, writable) for the call's time, also where the length is 0; lent numbers and entries stand on 8 bytes; and
@@ -18,6 +18,7 @@
 #include <stdint.h>
 
 #define MSHELOVAT_ROOM 10
+#define MSHELOVAT_LINE 30
 #define MSHELOVAT_DONE 100
 #define MSHELOVAT_OTHER 101
 
@@ -26,6 +27,40 @@ enum { MSHELOVAT_START, MSHELOVAT_SIZE, MSHELOVAT_KIND, MSHELOVAT_NEXT, MSHELOVA
 
 /* How many numbers an entry of mshelovat_list has, in the same order: start, size, type. */
 enum { MSHELOVAT_ENTRY = 3 };
+
+/* No line has more bytes than this, CR LF included: lent so many, mshelovat_line and mshelovat_line_at have room. */
+enum { MSHELOVAT_LONGEST_LINE = 134 };
+
+/* The places of what mshelovat_read_line tells: of every line its object's type (1, 3 or 4), the time in whole seconds
+ * and the nanoseconds over, and the channel; of a message the id without bit 31, whether that bit is set, Tx, remote,
+ * the DLC and the eight bytes; of a statistic the load in 1/100 percent and the six counters in the object's order. */
+enum {
+    MSHELOVAT_TOLD_KIND,
+    MSHELOVAT_TOLD_SECONDS,
+    MSHELOVAT_TOLD_NANOSECONDS,
+    MSHELOVAT_TOLD_CHANNEL,
+    MSHELOVAT_TOLD_ID,
+    MSHELOVAT_TOLD_EXTENDED,
+    MSHELOVAT_TOLD_SENT,
+    MSHELOVAT_TOLD_REMOTE,
+    MSHELOVAT_TOLD_DLC,
+    MSHELOVAT_TOLD_BYTE_0,
+    MSHELOVAT_TOLD_BYTE_1,
+    MSHELOVAT_TOLD_BYTE_2,
+    MSHELOVAT_TOLD_BYTE_3,
+    MSHELOVAT_TOLD_BYTE_4,
+    MSHELOVAT_TOLD_BYTE_5,
+    MSHELOVAT_TOLD_BYTE_6,
+    MSHELOVAT_TOLD_BYTE_7,
+    MSHELOVAT_TOLD_LOAD,
+    MSHELOVAT_TOLD_STANDARD_DATA,
+    MSHELOVAT_TOLD_EXTENDED_DATA,
+    MSHELOVAT_TOLD_STANDARD_REMOTE,
+    MSHELOVAT_TOLD_EXTENDED_REMOTE,
+    MSHELOVAT_TOLD_ERRORS,
+    MSHELOVAT_TOLD_OVERLOADS,
+    MSHELOVAT_TOLD
+};
 
 #ifdef __cplusplus
 extern "C" {
@@ -72,8 +107,32 @@ uint32_t mshelovat_read(const uint8_t *log, size_t log_length, size_t at, uint32
  * 0: out[0] is how many bytes were used, padding included.
  * 7 or 9: the record is refused; 11: the bytes are no foreign object; 10: `bytes` has no room; out[0] is 0, and `bytes`
  * is as it was. Where no number is lent the answer is 10 too, and nothing is written. */
-uint32_t mshelovat_write(const uint8_t *object, size_t object_length, uint8_t *bytes, size_t bytes_length, uint64_t *out,
-                         size_t out_count);
+uint32_t mshelovat_write(const uint8_t *object, size_t object_length, uint8_t *bytes, size_t bytes_length,
+                         uint64_t *out, size_t out_count);
+
+/* The line of an object (types 1, 3 and 4), handed in as its bytes without padding, written to the front of `bytes`.
+ * Lend one number.
+ * 0: out[0] is how many bytes the line has, CR LF included; 0 for an object of another type and for bytes that are no
+ * object.
+ * 7: the time unit is neither ten microseconds nor nanoseconds; 10: `bytes` has no room; out[0] is 0, and `bytes` is as
+ * it was. Where no number is lent the answer is 10 too, and nothing is written. */
+uint32_t mshelovat_line(const uint8_t *object, size_t object_length, uint8_t *bytes, size_t bytes_length, uint64_t *out,
+                        size_t out_count);
+
+/* The line of the object at position `at`, which may be any number, written to the front of `bytes`. Lend two numbers.
+ * 0: out is how many bytes the line has, 0 for an object of another type, and the position behind the object's padding.
+ * MSHELOVAT_DONE: `at` is exactly the log's end; out is 0 and at.
+ * 1 to 9: the object is refused; out is its place and at.
+ * MSHELOVAT_ROOM: `bytes` is shorter than the line; out is 0 and at, and `bytes` is as it was. Where fewer than two
+ * numbers are lent the answer is the same, and nothing is written to either. */
+uint32_t mshelovat_line_at(const uint8_t *log, size_t log_length, size_t at, uint8_t *bytes, size_t bytes_length,
+                           uint64_t *out, size_t out_count);
+
+/* A text read as one line, its CR LF included. Lend MSHELOVAT_TOLD numbers.
+ * 0: it is a line; out is what it tells, zeros for what it does not tell, and behind the bytes that stand in it.
+ * MSHELOVAT_LINE: it is none that an object can have; all these numbers are 0.
+ * MSHELOVAT_ROOM: fewer numbers were lent; nothing is written. */
+uint32_t mshelovat_read_line(const uint8_t *text, size_t text_length, uint64_t *out, size_t out_count);
 
 #ifdef __cplusplus
 }

@@ -1,5 +1,5 @@
-/* The calls of x86-64 Linux's C library that host/mshelovat.c makes. The kit has no C headers, and those of an Arm
- * machine are Arm's: so the calls are declared here, with x86-64's values. */
+/* The calls of x86-64 Linux's C library that the host makes. The kit has no C headers, and those of an Arm machine are
+ * Arm's: so the calls are declared here, with x86-64's values. */
 #ifndef HOST_LIBC_H
 #define HOST_LIBC_H
 
@@ -24,9 +24,11 @@ extern FILE *stdout, *stderr;
 
 int printf(const char *format, ...);
 int fprintf(FILE *to, const char *format, ...);
+size_t fwrite(const void *bytes, size_t size, size_t count, FILE *to);
 int fflush(FILE *of);
 int ferror(FILE *of);
 
 int strcmp(const char *a, const char *b);
+void *memchr(const void *bytes, int byte, size_t count);
 
 #endif

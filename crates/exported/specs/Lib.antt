@@ -1,3 +1,4 @@
 pub mod Replies
 pub mod Records
 pub mod Lists
+pub mod Lines

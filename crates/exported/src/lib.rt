@@ -1,8 +1,12 @@
 // The calls for C and Rust: numbers and slices in, the answer's number out, its values into a lent slice.
 // A lent slice that is too short is answered by 10, and nothing is written. include/mshelovat.h has the C side.
+mod line;
 mod list;
 mod record;
 
+pub use line::mshelovat_line;
+pub use line::mshelovat_line_at;
+pub use line::mshelovat_read_line;
 pub use list::mshelovat_list;
 use objects::Answer;
 use objects::Cursor;

@@ -1,12 +1,15 @@
-//! Compares the proved calls with the independent reader, and times walk and check beside it, on 64 MiB. `docs/speed`
-//! builds and runs it: it needs the archive of `exported` for this processor, which `docs/native-object` makes.
+//! Compares the proved calls with the independent reader, and times walk, check and ASC lines beside it, on 64 MiB.
+//! `docs/speed` builds and runs it: it needs the archive of `exported` for this processor, which `docs/native-object`
+//! makes.
 
 mod timed {
+    use mshelovat_reference::asc::{self, LineAt};
     use mshelovat_reference::gen::{self, Rng};
-    use mshelovat_reference::layout::{self, Refusal};
+    use mshelovat_reference::layout::{self, number, Refusal};
     use mshelovat_reference::library::{self, End, Read};
     use mshelovat_reference::object::{self, Answer};
     use mshelovat_reference::{records, slips};
+    use std::collections::BTreeSet;
     use std::hint::black_box;
     use std::time::Instant;
 
@@ -60,8 +63,8 @@ mod timed {
     }
 
     /// An object, now and then with a few bytes changed, but those of its type.
-    fn offered(rng: &mut Rng) -> Vec<u8> {
-        let kind = rng.pick(&gen::LISTED);
+    fn offered(rng: &mut Rng, kinds: &[u32]) -> Vec<u8> {
+        let kind = rng.pick(kinds);
         let mut object = match rng.below(6) {
             0 => gen::foreign(rng),
             _ => gen::object(rng, kind),
@@ -101,18 +104,71 @@ mod timed {
 
     /// The two agree on the writing of an object; gives the number.
     fn agree_write(rng: &mut Rng) -> u8 {
-        let object = offered(rng);
+        let object = offered(rng, &gen::LISTED);
         let n = object.len() + rng.below(6);
         let plain = lent(7, n, |b| plain_write(&object, b));
         assert_eq!(lent(7, n, |b| library::write(&object, b)), plain);
         plain.0.map_or_else(|r| r.number, |_| 0)
     }
 
-    /// The two agree on logs, bundles and objects, sound and damaged.
+    /// The types that have a line.
+    const CAN: [u32; 3] = [1, 3, 4];
+
+    /// Room for a line: often too little by one or exactly enough.
+    fn line_room(rng: &mut Rng, length: usize) -> usize {
+        let any = rng.below(library::LONGEST_LINE + 1);
+        let edges = [length.saturating_sub(1), length, length + 1, any];
+        rng.pick(&edges)
+    }
+
+    /// The two agree on the line of the object at a position; gives the number.
+    fn agree_line_at(rng: &mut Rng, log: &[u8], at: usize) -> u8 {
+        let length = match asc::line_at(log, at, &mut [0; library::LONGEST_LINE]) {
+            LineAt::Line { used, .. } => used,
+            _ => 0,
+        };
+        let n = line_room(rng, length);
+        let plain = lent(7, n, |b| asc::line_at(log, at, b));
+        assert_eq!(lent(7, n, |b| library::line_at(log, at, b)), plain);
+        match plain.0 {
+            LineAt::Refused(r) => r.number,
+            _ => 0,
+        }
+    }
+
+    /// The two agree on the line of an object; gives the number, and the line where there is one.
+    fn agree_line(rng: &mut Rng) -> (u8, Vec<u8>) {
+        let object = offered(rng, &CAN);
+        let mut line = vec![0; library::LONGEST_LINE];
+        let used = asc::object_line(&object, &mut line).unwrap_or(0);
+        line.truncate(used);
+        let n = line_room(rng, used);
+        let plain = lent(7, n, |b| asc::object_line(&object, b));
+        assert_eq!(lent(7, n, |b| library::line(&object, b)), plain);
+        (plain.0.map_or_else(|r| r.number, |_| 0), line)
+    }
+
+    /// The two agree on the reading of a text, which is a line or was one; gives the number.
+    fn agree_read_line(rng: &mut Rng, mut text: Vec<u8>) -> u8 {
+        let at = rng.below(text.len());
+        let byte = rng.pick(b"0123456789ABCDEFabfx. \r\nRTdrOSBX%");
+        match rng.below(6) {
+            0 if !text.is_empty() => text[at] = byte,
+            1 => text.insert(at, byte),
+            2 if !text.is_empty() => drop(text.remove(at)),
+            3 => text.truncate(at),
+            _ => {}
+        }
+        let plain = asc::read_line(&text).map(|told| told.numbers());
+        assert_eq!(library::read_line(&text), plain);
+        plain.map_or_else(|r| r.number, |_| 0)
+    }
+
+    /// The two agree on logs, bundles, objects and lines, sound and damaged.
     fn agree(cases: usize) {
         let rng = &mut Rng(29);
-        let mut checked = std::collections::BTreeSet::new();
-        let mut written = std::collections::BTreeSet::new();
+        let [mut checked, mut written, mut placed, mut lines, mut texts] =
+            [const { BTreeSet::new() }; 5];
         for _ in 0..cases {
             let count = rng.below(7);
             let log = gen::any_log(rng, count);
@@ -126,13 +182,24 @@ mod timed {
             agree_at(rng, &log, 0);
             agree_at(rng, &log, at);
             written.insert(agree_write(rng));
+            placed.insert(agree_line_at(rng, &log, 0));
+            placed.insert(agree_line_at(rng, &log, at));
+            let (number, line) = agree_line(rng);
+            lines.insert(number);
+            texts.insert(agree_read_line(rng, line));
         }
-        println!("{cases} logs, bundles and objects: the same answers");
-        println!("numbers of the check {checked:?}, of the write {written:?}\n");
+        assert!(lines.contains(&number::UNIT) && lines.contains(&number::ROOM));
+        assert!(placed.contains(&number::UNIT) && placed.contains(&number::ROOM));
+        assert!(texts.contains(&0) && texts.contains(&number::LINE));
+        println!("{cases} logs, bundles, objects and lines: the same answers");
+        println!("numbers of the check {checked:?}, of the write {written:?}");
+        println!("numbers of the line {lines:?}, at a position {placed:?}, read {texts:?}\n");
     }
 
     const LOG: usize = 64 << 20;
     const RUNS: usize = 16;
+    /// Lines take some ten times as long as a walk.
+    const LINE_RUNS: usize = 6;
 
     /// A copy in a buffer that was cleared first, so that all its pages are there.
     fn settled(bytes: Vec<u8>) -> Vec<u8> {
@@ -193,9 +260,9 @@ mod timed {
 
     /// The best of several runs of each, in seconds: in turn, every other time from the last to the first, so that none
     /// always comes behind the same one.
-    fn best<const N: usize>(calls: [&dyn Fn() -> u64; N]) -> [f64; N] {
+    fn best<const N: usize>(runs: usize, calls: [&dyn Fn() -> u64; N]) -> [f64; N] {
         let mut best = [f64::MAX; N];
-        for run in 0..RUNS {
+        for run in 0..runs {
             for turn in 0..N {
                 let i = if run % 2 == 0 { turn } else { N - 1 - turn };
                 let before = Instant::now();
@@ -210,7 +277,7 @@ mod timed {
         answer.expect("a sound log and an honest bundle") as u64
     }
 
-    fn line(what: &str, bytes: usize, objects: u64, proved: f64, plain: f64, memory: f64) {
+    fn print(what: &str, bytes: usize, objects: u64, proved: f64, plain: f64, memory: f64) {
         let speed = |t: f64| bytes as f64 / t / 1e9;
         println!(
             "| {what} | {:.1} | {:.1} | {:.2} | {:.1} | {:.2} | {:.2} |",
@@ -232,23 +299,91 @@ mod timed {
             assert_eq!(library::check(&log, bundle), objects);
             assert_eq!(slips::check(&log, bundle), objects);
         }
-        let t = best([
-            &|| count(library::walk(black_box(&log))),
-            &|| count(object::walk(black_box(&log))),
-            &|| count(library::check(black_box(&log), &eight)),
-            &|| count(slips::check(black_box(&log), &eight)),
-            &|| count(library::check(black_box(&log), &one)),
-            &|| count(slips::check(black_box(&log), &one)),
-            &|| read(black_box(&log)),
-        ]);
+        let t = best(
+            RUNS,
+            [
+                &|| count(library::walk(black_box(&log))),
+                &|| count(object::walk(black_box(&log))),
+                &|| count(library::check(black_box(&log), &eight)),
+                &|| count(slips::check(black_box(&log), &eight)),
+                &|| count(library::check(black_box(&log), &one)),
+                &|| count(slips::check(black_box(&log), &one)),
+                &|| read(black_box(&log)),
+            ],
+        );
         let n = count(objects);
         let row = |call: &str, i: usize| {
             let what = format!("{name}, {n} objects: {call}");
-            line(&what, log.len(), n, t[i], t[i + 1], t[6]);
+            print(&what, log.len(), n, t[i], t[i + 1], t[6]);
         };
         row("walk", 0);
         row("check, eight equal slips", 2);
         row("check, one slip with everything", 4);
+    }
+
+    /// Every line of a log, one after the other into a buffer that is cleared first: the sum of their lengths and of
+    /// a byte of each. All bytes of a line have to be there.
+    fn all_lines(log: &[u8], line_at: impl Fn(&[u8], usize, &mut [u8]) -> LineAt) -> u64 {
+        let mut buffer = [0; library::LONGEST_LINE];
+        let (mut at, mut sum) = (0, 0);
+        loop {
+            match line_at(log, at, &mut buffer) {
+                LineAt::Line { used, next } => {
+                    let line = black_box(&buffer[..used]);
+                    sum += (used + usize::from(line[used / 2])) as u64;
+                    at = next;
+                }
+                LineAt::Done => return sum,
+                LineAt::Refused(refusal) => panic!("{refusal:?} in a sound log"),
+            }
+        }
+    }
+
+    /// The text of all lines, and where each ends.
+    fn text_of(log: &[u8]) -> (Vec<u8>, Vec<usize>) {
+        let mut buffer = [0; library::LONGEST_LINE];
+        let (mut text, mut ends, mut at) = (Vec::new(), Vec::new(), 0);
+        while let LineAt::Line { used, next } = asc::line_at(log, at, &mut buffer) {
+            text.extend_from_slice(&buffer[..used]);
+            ends.push(text.len());
+            at = next;
+        }
+        (settled(text), ends)
+    }
+
+    /// What each line of a text tells: a sum over it. All its numbers have to be there.
+    fn all_told(
+        text: &[u8],
+        ends: &[usize],
+        read_line: impl Fn(&[u8]) -> Result<[u64; library::TOLD], Refusal>,
+    ) -> u64 {
+        let (mut start, mut sum) = (0, 0u64);
+        for end in ends {
+            let told = read_line(&text[start..*end]).expect("a line");
+            sum = sum.wrapping_add(black_box(&told)[2]);
+            start = *end;
+        }
+        sum
+    }
+
+    /// Times the lines of a log that has CAN objects alone, and these lines read again.
+    fn time_lines(name: &str, pieces: &[Vec<u8>]) {
+        let log = log_of(pieces, &mut Rng(17));
+        let (text, ends) = text_of(&log);
+        let proved = || all_lines(black_box(&log), library::line_at);
+        let plain = || all_lines(black_box(&log), asc::line_at);
+        let told = |text: &[u8]| asc::read_line(text).map(|told| told.numbers());
+        let proved_told = || all_told(black_box(&text), &ends, library::read_line);
+        let plain_told = || all_told(black_box(&text), &ends, told);
+        assert_eq!((proved(), proved_told()), (plain(), plain_told()));
+        let (log_read, text_read) = (|| read(black_box(&log)), || read(black_box(&text)));
+        let n = ends.len() as u64;
+        let [a, b, memory] = best(LINE_RUNS, [&proved, &plain, &log_read]);
+        let what = format!("{name}, {n} objects: to ASC");
+        print(&what, log.len(), n, a, b, memory);
+        let [a, b, memory] = best(LINE_RUNS, [&proved_told, &plain_told, &text_read]);
+        let what = format!("{name}, {n} lines: a line read");
+        print(&what, text.len(), n, a, b, memory);
     }
 
     pub fn main() {
@@ -264,6 +399,11 @@ mod timed {
         time(
             "16 to 2,000 bytes, foreign",
             &pieces(rng, &[9_999], 16, 2_000),
+        );
+        time_lines("48 bytes (CAN)", &pieces(rng, &[1], 48, 48));
+        time_lines(
+            "36 to 60 bytes (CAN, types 1, 3, 4)",
+            &pieces(rng, &CAN, 36, 60),
         );
     }
 }

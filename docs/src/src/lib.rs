@@ -2,7 +2,8 @@
 //! compared with the proved library. Document 01, "the paper" in comments
 //! here, is what the project was built from; docs/FORMAT.md tells the same in
 //! other words. This crate was written from the paper alone. Where that can be
-//! read in two ways, points 1 to 15 of docs/DECISIONS.md hold.
+//! read in two ways, points 1 to 15 of docs/DECISIONS.md hold. Document 02 has
+//! the change requests; [`asc`] is the first of them, W-201.
 //!
 //! * [`header`]: the header and its length
 //! * [`layout`]: type list, padding, refusal numbers
@@ -10,6 +11,7 @@
 //! * [`records`]: reading and writing one record of each type
 //! * [`slips`]: the check of a bundle against a log
 //! * [`programs`]: what the lister and the desk program print
+//! * [`asc`]: lines of text for types 1, 3 and 4, and their reader
 //! * [`gen`]: a seeded generator of logs, records and bundles
 //! * `library`: the proved library itself, called; with the feature `speed`
 
@@ -17,6 +19,7 @@
 #![deny(unsafe_code)]
 #![warn(missing_docs)]
 
+pub mod asc;
 pub mod gen;
 pub mod header;
 pub mod layout;

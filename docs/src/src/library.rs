@@ -7,6 +7,7 @@
 //! (target/staticlib/libexported.a) is x86-64 and does not link into native
 //! programs on Arm; there docs/native-object makes one to measure with.
 
+use crate::asc::LineAt;
 use crate::layout::Refusal;
 use crate::object::{Answer, Object};
 
@@ -49,7 +50,31 @@ extern "C" {
         out: *mut u64,
         m: usize,
     ) -> u32;
+    fn mshelovat_line(
+        object: *const u8,
+        n: usize,
+        bytes: *mut u8,
+        k: usize,
+        out: *mut u64,
+        m: usize,
+    ) -> u32;
+    fn mshelovat_line_at(
+        log: *const u8,
+        n: usize,
+        at: usize,
+        bytes: *mut u8,
+        k: usize,
+        out: *mut u64,
+        m: usize,
+    ) -> u32;
+    fn mshelovat_read_line(text: *const u8, n: usize, out: *mut u64, m: usize) -> u32;
 }
+
+/// No line has more bytes than this: so many have room for every one.
+pub const LONGEST_LINE: usize = 134;
+
+/// How many numbers a line tells.
+pub const TOLD: usize = 24;
 
 /// No room, as [`read`] tells it.
 const ROOM: u32 = 10;
@@ -199,6 +224,45 @@ pub fn write(object: &[u8], bytes: &mut [u8]) -> Result<usize, Refusal> {
     told(number, out[0])
 }
 
+/// The line of an object, handed in as its bytes without padding, to the front of the bytes: how
+/// many it has, 0 for another type and for bytes that are no object; or 7, 10.
+pub fn line(object: &[u8], bytes: &mut [u8]) -> Result<usize, Refusal> {
+    let mut out = [0u64; 1];
+    let (p, k) = (bytes.as_mut_ptr(), bytes.len());
+    // Safe: as in `list`.
+    let number =
+        unsafe { mshelovat_line(object.as_ptr(), object.len(), p, k, out.as_mut_ptr(), 1) };
+    told(number, out[0])
+}
+
+/// The line of the object at a position, which may be any number, to the front of the bytes.
+pub fn line_at(log: &[u8], at: usize, bytes: &mut [u8]) -> LineAt {
+    let mut out = [0u64; 2];
+    let (p, k) = (bytes.as_mut_ptr(), bytes.len());
+    // Safe: as in `list`.
+    let number =
+        unsafe { mshelovat_line_at(log.as_ptr(), log.len(), at, p, k, out.as_mut_ptr(), 2) };
+    match number {
+        0 => LineAt::Line {
+            used: out[0] as usize,
+            next: out[1] as usize,
+        },
+        DONE => LineAt::Done,
+        n => LineAt::Refused(refusal(n, out[0])),
+    }
+}
+
+/// What a line tells, in the order of [`crate::asc::Told::numbers`]; or 30.
+pub fn read_line(text: &[u8]) -> Result<[u64; TOLD], Refusal> {
+    let mut out = [0u64; TOLD];
+    // Safe: as in `walk`.
+    let number = unsafe { mshelovat_read_line(text.as_ptr(), text.len(), out.as_mut_ptr(), TOLD) };
+    match number {
+        0 => Ok(out),
+        n => Err(refusal(n, 0)),
+    }
+}
+
 #[cfg(test)]
 mod tests {
     use super::*;
@@ -206,7 +270,7 @@ mod tests {
     /// Too few numbers lent: 10, and nothing is written.
     #[test]
     fn too_few_lent() {
-        let mut out = [7u64; 3];
+        let mut out = [7u64; TOLD - 1];
         let mut bytes = [7u8; 16];
         let mut entries = [7u64; 3];
         let log = include_bytes!("library.rs").as_ptr();
@@ -220,9 +284,49 @@ mod tests {
                 mshelovat_check(log, 0, log, 0, o, 0),
                 mshelovat_read(log, 0, 0, 3, b, 16, o, 1),
                 mshelovat_write(log, 16, b, 16, o, 0),
+                mshelovat_line(log, 16, b, 16, o, 0),
+                mshelovat_line_at(log, 0, 0, b, 16, o, 1),
+                mshelovat_read_line(log, 16, o, TOLD - 1),
             ]
         };
-        assert_eq!(numbers, [10; 6]);
-        assert_eq!((out, bytes, entries), ([7; 3], [7; 16], [7; 3]));
+        assert_eq!(numbers, [10; 9]);
+        assert_eq!((out, bytes, entries), ([7; TOLD - 1], [7; 16], [7; 3]));
+    }
+
+    /// A text that is no line clears the numbers, and none behind them.
+    #[test]
+    fn no_line_tells_zeros() {
+        let mut out = [7u64; TOLD + 1];
+        let text = b"0.001000000 1 OverloadFrame\n";
+        // Safe: each pointer is to as many values as its count says.
+        let number =
+            unsafe { mshelovat_read_line(text.as_ptr(), text.len(), out.as_mut_ptr(), TOLD + 1) };
+        assert_eq!((number, &out[..TOLD], out[TOLD]), (30, &[0; TOLD][..], 7));
+    }
+
+    /// The longest line just fits the bytes that are always enough.
+    #[test]
+    fn longest_line() {
+        use crate::records::{raw, CanStatistic, Head, Record};
+        let most = u32::MAX;
+        let object = raw(&Record::CanStatistic(CanStatistic {
+            head: Head {
+                unit: 1,
+                time: u64::MAX,
+                ..Default::default()
+            },
+            channel: u16::MAX,
+            bus_load: u16::MAX,
+            standard_data: most,
+            extended_data: most,
+            standard_remote: most,
+            extended_remote: most,
+            error: most,
+            overload: most,
+        }));
+        let mut bytes = [0; LONGEST_LINE];
+        assert_eq!(line(&object, &mut bytes), Ok(LONGEST_LINE));
+        let short = line(&object, &mut bytes[1..]);
+        assert_eq!(short, Err(Refusal::new(10, 0)));
     }
 }

@@ -1,0 +1,10 @@
+pub mod ToldOfRecord
+pub mod Writings
+pub mod Wholes
+pub mod Events
+pub mod LineSteps
+pub mod Stamps
+pub mod Fitting
+pub mod RecordOfTold
+pub mod Exact
+pub mod Examples

@@ -1,0 +1,5 @@
+pub mod Glyphs
+pub mod Digits
+pub mod Texts
+pub mod Loops
+pub mod PairLaws

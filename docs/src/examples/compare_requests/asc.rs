@@ -1,0 +1,173 @@
+//! W-201: this crate's answers to questions 1 to 4, and what must come among them.
+use super::cases::Case;
+use super::replies::{refused, word, Break, Reply, Told};
+use mshelovat_reference::asc::{self, LineAt};
+use mshelovat_reference::header::header_length;
+use mshelovat_reference::layout::{kind, row, u32_at, Bodies, Refusal};
+use mshelovat_reference::object::{step, Answer};
+use mshelovat_reference::records::{record_in, Record};
+
+/// How many numbers stand behind the reply to question 3.
+pub const NUMBERS: usize = 24;
+
+/// The answer to a case.
+pub fn tell(case: &Case, page: &mut [u8], wrong: Break) -> Told {
+    if case.question == 3 {
+        return read_told(&case.first, wrong);
+    }
+    let room = &mut page[..case.room()];
+    let reply = match case.question {
+        1 => used_reply(asc::object_line(&case.first, room)),
+        2 => at_reply(case, room),
+        _ => used_reply(record_line(case, room, wrong)),
+    };
+    Told {
+        reply,
+        behind: room.to_vec(),
+    }
+}
+
+fn used_reply(answer: Result<usize, Refusal>) -> Reply {
+    match answer {
+        Ok(used) => [word::USED, used as u64, 0, 0, 0],
+        Err(refusal) => refused(refusal, 0),
+    }
+}
+
+fn at_reply(case: &Case, room: &mut [u8]) -> Reply {
+    let position = case.number as usize;
+    let answer = asc::line_at(&case.first, position, room);
+    let next = answer.position_after(position) as u64;
+    match answer {
+        LineAt::Line { used, .. } => [word::USED, used as u64, 0, 0, next],
+        LineAt::Done => [word::DONE, 0, 0, 0, next],
+        LineAt::Refused(refusal) => refused(refusal, next),
+    }
+}
+
+/// The record of a type that these bytes are; of zeros where they are too few for header and body.
+pub fn taken(kind: u32, bytes: &[u8]) -> Record<'_> {
+    let Some(Bodies::OneOf(bodies)) = row(kind).map(|row| row.bodies) else {
+        panic!("type {kind} has no line");
+    };
+    let least = bodies.iter().min().expect("a body's length");
+    if bytes.len() < header_length(bytes) + least {
+        return record_in(kind, &[0; 128]);
+    }
+    record_in(kind, bytes)
+}
+
+fn record_line(case: &Case, room: &mut [u8], wrong: Break) -> Result<usize, Refusal> {
+    match taken(case.second_number(), &case.first) {
+        Record::CanMessage(mut r) if wrong == Break::Remote && r.flags & 0x80 != 0 => {
+            r.flags &= 0x7F;
+            let used = asc::message_line(&r, room)?;
+            let line = &mut room[..used];
+            let at = line.windows(3).position(|three| three == b" d ");
+            line[at.expect("a message's line") + 1] = b'r';
+            Ok(used)
+        }
+        Record::CanMessage(r) => asc::message_line(&r, room),
+        Record::CanOverload(r) => asc::overload_line(&r, room),
+        Record::CanStatistic(mut r) => {
+            if wrong == Break::Counter {
+                (r.extended_data, r.standard_remote) = (r.standard_remote, r.extended_data);
+            }
+            asc::statistic_line(&r, room)
+        }
+        _ => panic!("type {} has no line", case.second_number()),
+    }
+}
+
+fn read_told(text: &[u8], wrong: Break) -> Told {
+    let read = match wrong {
+        Break::Time => any_fraction(text),
+        _ => asc::read_line(text),
+    };
+    let (reply, numbers) = match read {
+        Ok(told) => ([word::TOLD, 0, 0, 0, 0], told.numbers()),
+        Err(refusal) => (refused(refusal, 0), [0; NUMBERS]),
+    };
+    Told {
+        reply,
+        behind: numbers.iter().flat_map(|n| n.to_le_bytes()).collect(),
+    }
+}
+
+/// Reads a line as if its time had no fraction, and then puts that in its place.
+fn any_fraction(text: &[u8]) -> Result<asc::Told, Refusal> {
+    let mut whole = text.to_vec();
+    let point = text.iter().position(|b| *b == b'.').unwrap_or(0);
+    let Some(digits) = whole.get_mut(point + 1..point + 10) else {
+        return asc::read_line(text);
+    };
+    let fraction = String::from_utf8_lossy(digits).into_owned();
+    if !digits.iter().all(u8::is_ascii_digit) {
+        return asc::read_line(text);
+    }
+    digits.fill(b'0');
+    let mut told = asc::read_line(&whole)?;
+    told.nanoseconds = fraction.parse().expect("nine digits");
+    Ok(told)
+}
+
+/// What must come.
+#[rustfmt::skip]
+pub const NEEDED: [&str; 33] = [
+    "1: line of type 1", "1: line of type 3", "1: line of type 4",
+    "1: 0 bytes, another type", "1: 0 bytes, no object",
+    "1: refused 7", "1: refused 10",
+    "2: line of type 1", "2: line of type 3", "2: line of type 4", "2: 0 bytes", "2: done",
+    "2: refused 1", "2: refused 2", "2: refused 3", "2: refused 5",
+    "2: refused 7", "2: refused 8", "2: refused 10",
+    "3: told type 1", "3: told type 3", "3: told type 4",
+    "3: told a time that only unit 1 can write", "3: refused 30",
+    "4: line of type 1", "4: line of type 3", "4: line of type 4",
+    "4: refused 7, type 1", "4: refused 7, type 3", "4: refused 7, type 4",
+    "4: refused 10, type 1", "4: refused 10, type 3", "4: refused 10, type 4",
+];
+
+/// What came, by name.
+pub fn names(case: &Case, told: &Told) -> Vec<String> {
+    let [came, number, ..] = told.reply;
+    let mut names = vec![match (case.question, came) {
+        (4, word::REFUSED) => format!("refused {number}, type {}", case.second_number()),
+        (_, word::REFUSED) => format!("refused {number}"),
+        (_, word::DONE) => "done".to_string(),
+        (_, word::TOLD) => format!("told type {}", told.behind[0]),
+        (_, _) if number > 0 => format!("line of type {}", kind_of(case)),
+        (1, _) if is_object(&case.first) => "0 bytes, another type".to_string(),
+        (1, _) => "0 bytes, no object".to_string(),
+        (_, _) => "0 bytes".to_string(),
+    }];
+    if case.question == 3 && came == word::TOLD && past_nanoseconds(&told.behind) {
+        names.push("told a time that only unit 1 can write".to_string());
+    }
+    let question = case.question;
+    names.iter().map(|n| format!("{question}: {n}")).collect()
+}
+
+/// The type of what has a line.
+fn kind_of(case: &Case) -> u32 {
+    match case.question {
+        1 => u32_at(&case.first, 12),
+        2 => u32_at(&case.first, case.number as usize + 12),
+        _ => case.second_number(),
+    }
+}
+
+/// Are these bytes one whole object, of a type that has no line?
+fn is_object(bytes: &[u8]) -> bool {
+    let padded = mshelovat_reference::gen::padded(bytes.to_vec());
+    let lines = [kind::CAN_MESSAGE, kind::CAN_OVERLOAD, kind::CAN_STATISTIC];
+    match step(&padded, 0) {
+        Answer::Object(o) => o.size as usize == bytes.len() && !lines.contains(&o.kind),
+        _ => false,
+    }
+}
+
+/// Is the time that these numbers tell past what a u64 of nanoseconds holds?
+fn past_nanoseconds(numbers: &[u8]) -> bool {
+    let number = |i: usize| u64::from_le_bytes(numbers[8 * i..8 * i + 8].try_into().unwrap());
+    u128::from(number(1)) * 1_000_000_000 + u128::from(number(2)) > u64::MAX.into()
+}

@@ -1,0 +1,63 @@
+//! The program that compares the requests, fed with this crate's own answers: the cases reach all
+//! that they must, the same answers pass, and other ones do not.
+
+#[allow(dead_code)]
+#[path = "../examples/compare_requests/main.rs"]
+mod program;
+
+use program::cases::{Cases, LIMIT};
+use program::judge;
+use program::replies::{tell, Break};
+
+/// The seed and count that `tests/compare-requests` takes by itself.
+const SEED: u64 = 7;
+const COUNT: usize = 20_000;
+
+fn answers(wrong: Break) -> Vec<u8> {
+    let mut cases = Cases::new(SEED);
+    let mut page = vec![0; LIMIT];
+    let answer = |_| tell(&cases.next_case(), &mut page, wrong).bytes();
+    (0..COUNT).flat_map(answer).collect()
+}
+
+#[test]
+fn the_same_answers_pass() {
+    let answers = answers(Break::Nothing);
+    let judged = |answers: &[u8]| judge(SEED, COUNT, Break::Nothing, &mut &answers[..]);
+    assert!(judged(&answers));
+    assert!(!judged(&answers[..answers.len() - 1]));
+    assert!(!judged(&[&answers[..], &[0]].concat()));
+    for at in [0, 39, 40, answers.len() / 2, answers.len() - 1] {
+        let mut changed = answers.clone();
+        changed[at] ^= 1;
+        assert!(!judged(&changed), "byte {at}");
+    }
+}
+
+#[test]
+fn too_few_cases_do_not_pass() {
+    let mut cases = Cases::new(SEED);
+    let mut page = vec![0; LIMIT];
+    let answer = |_| tell(&cases.next_case(), &mut page, Break::Nothing).bytes();
+    let answers: Vec<u8> = (0..100).flat_map(answer).collect();
+    assert!(!judge(SEED, 100, Break::Nothing, &mut &answers[..]));
+}
+
+#[test]
+fn every_break_shows() {
+    let answers = answers(Break::Nothing);
+    for name in ["counter", "remote", "time"] {
+        let wrong = Break::named(name).unwrap();
+        assert!(!judge(SEED, COUNT, wrong, &mut &answers[..]), "{name}");
+    }
+}
+
+#[test]
+fn parts_and_rooms_are_short() {
+    let mut cases = Cases::new(SEED);
+    for _ in 0..COUNT {
+        let case = cases.next_case();
+        assert!(case.first.len() <= LIMIT && case.second.len() <= LIMIT);
+        assert!(case.room() <= LIMIT);
+    }
+}
