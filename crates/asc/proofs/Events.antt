@@ -17,7 +17,7 @@ use Rattle.headers.specs.Rows.{rowOf, listed}
 use Rattle.headers.specs.Types.{Kind, numberOf, kinds}
 use Rattle.headers.specs.Types as kind
 use Rattle.headers.specs.Layout.{Holds}
-use Rattle.headers.proofs.Heads.{clear, passes}
+use Rattle.headers.proofs.Heads.{clear-object}
 use Rattle.headers.proofs.Bodies.{object-held, held-least}
 use Rattle.headers.proofs.Layouts.{object-back, object-holds}
 use Rattle.headers.proofs.TypeKinds.{known as listed-kind}
@@ -26,8 +26,8 @@ use Rattle.objects.specs.Kinds as sort
 use Rattle.objects.specs.Items.{known, Valid, bytesOf}
 use Rattle.objects.specs.Items as items
 use Rattle.objects.specs.Logs.{WellFormed}
-use Rattle.objects.specs.Faults.{bodyBy, bodyFaultOf, faultBy, typeFault, IsObject}
-use Rattle.objects.proofs.KindLaws.{laws, found, listed-fault}
+use Rattle.objects.specs.Faults.{innerBy, innerFaultOf, faultBy, typeFault, IsObject}
+use Rattle.objects.proofs.KindLaws.{laws, found, listed-inner, listed-fault}
 use Rattle.objects.proofs.ItemLaws.{long, reading}
 use Rattle.objects.proofs.Steps.{is-object}
 use Rattle.objects.proofs.Standing.{item-object}
@@ -41,20 +41,20 @@ use Rattle.asc.specs.Writes.{itemOf, Found, one, none}
 use Rattle.asc.specs.Objects.{whole, eventAs, eventIn}
 
 -- 7 to 9 let through what 8 and 9 do
-body-clear : (f : sort.Found) (h : Header) (b : List ℕ) → faultBy f h b ≡ 0 → bodyBy f b ≡ 0
-body-clear (sort.one k) h b e = clear 6 _ _ e .1
-body-clear sort.none h b e = refl
+inner-clear : (f : sort.Found) (o : List ℕ) → faultBy f o ≡ 0 → innerBy f o ≡ 0
+inner-clear (sort.one k) o e = clear-object o _ .0 e .1
+inner-clear sort.none o e = refl
 
-body-right : (o : List ℕ) → IsObject o → bodyFaultOf (kindAt o) (bodyOf o) ≡ 0
-unfolding bodyFaultOf typeFault
-body-right o w = body-clear (find kinds (kindAt o)) (headerOf o) (bodyOf o) (w .body)
+inner-right : (o : List ℕ) → IsObject o → innerFaultOf (kindAt o) o ≡ 0
+unfolding innerFaultOf typeFault
+inner-right o w = inner-clear (find kinds (kindAt o)) o (w .body)
 
 -- a well-formed object is exactly one object
 pub whole-formed : (o : List ℕ) → WellFormed o → whole o ≡ true
 unfolding whole
 whole-formed o f =
     let w = is-object o f in
-    rw (le-leb headSize (length o) (long o w), eq-eqb (headFault o) 0 (w .head), eq-eqb (sizeAt o) (length o) (w .sized), eq-eqb (bodyFaultOf (kindAt o) (bodyOf o)) 0 (body-right o w))
+    rw (le-leb headSize (length o) (long o w), eq-eqb (headFault o) 0 (w .head), eq-eqb (sizeAt o) (length o) (w .sized), eq-eqb (innerFaultOf (kindAt o) o) 0 (inner-right o w))
 
 -- so the event that it is goes by its type
 pub event-whole : (o : List ℕ) → WellFormed o → eventIn o ≡ eventAs (kindAt o) o
@@ -70,7 +70,7 @@ no-event o e = rw e
 record Whole (o : List ℕ) : Type 0 where
   head : headFault o ≡ 0
   sized : sizeAt o ≡ length o
-  body : bodyFaultOf (kindAt o) (bodyOf o) ≡ 0
+  inner : innerFaultOf (kindAt o) o ≡ 0
 
 whole-passes : (o : List ℕ) → whole o ≡ true → Whole o
 unfolding whole
@@ -78,7 +78,7 @@ whole-passes o e =
     let a = both-true (leb headSize (length o)) _ e in
     let b = both-true (eqb (headFault o) 0) _ (a .1) in
     let c = both-true (eqb (sizeAt o) (length o)) _ (b .1) in
-    record { head = eqb-true _ _ (b .0); sized = eqb-true _ _ (c .0); body = eqb-true _ _ (c .1) }
+    record { head = eqb-true _ _ (b .0); sized = eqb-true _ _ (c .0); inner = eqb-true _ _ (c .1) }
 
 -- an object of type k
 module _ (k : Kind) where
@@ -109,7 +109,7 @@ module _ (k : Kind) where
         record {
           sized = w .sized;
           head = w .head;
-          body = sym (listed-fault (kindAt o) (headerOf o) (bodyOf o) listed-here) ∙ passes 7 _ u ∙ w .body;
+          body = sym (listed-fault (kindAt o) o listed-here) ∙ clear-object o _ .1 (u, listed-inner (kindAt o) o listed-here ∙ w .inner);
         }
 
     bytes-here : layoutOf k .Valid (recordIn k o) → bytesOf (known k (recordIn k o)) ≡ o

@@ -8,6 +8,7 @@ use Rattle.digits.specs.Digits.{glyph, fixed, fewest, decimal, hex}
 use Rattle.digits.specs.Pairs.{pairs, bytesIn, filled}
 use Rattle.digits.specs.Reading.{digit, scan, number}
 use Rattle.digits.specs.Text.{text, labelled}
+use Rattle.headers.specs.declared.header.Origin.the-variants.{First, Second}
 use Rattle.headers.specs.declared.header.Header.{Header}
 use Rattle.asc_lines.specs.declared.told.Head.{Head}
 use Rattle.asc_lines.specs.declared.told.Told.{Told}
@@ -179,9 +180,12 @@ pub record Write : Type 0 where
 unfoldable pub write : Event → String → Write
 write e s = record { from = e; gives = text s }
 
--- client and version are not told
+-- client and version are not told, nor are status and original time stamp of the second header
 unfoldable pub header : ℕ → ℕ → Header
-header unit stamp = record { unit = unit; client = 7; version = 9; stamp = stamp }
+header unit stamp = record { unit = unit; origin = First 7; version = 9; stamp = stamp }
+
+unfoldable pub second : ℕ → ℕ → Header
+second unit stamp = record { unit = unit; origin = Second 1 5; version = 9; stamp = stamp }
 
 -- a message at a second on channel 2, with eight bytes
 unfoldable pub frame : ℕ → ℕ → ℕ → Event
@@ -190,6 +194,9 @@ frame id flags dlc =
 
 unfoldable pub late : ℕ → ℕ → ℕ → Event
 late unit stamp channel = overload (record { header = header unit stamp; channel = channel })
+
+unfoldable pub lateSecond : ℕ → ℕ → ℕ → Event
+lateSecond unit stamp channel = overload (record { header = second unit stamp; channel = channel })
 
 -- a statistic at 101,000 tens of microseconds
 unfoldable pub load : ℕ → Event
@@ -225,6 +232,8 @@ writes =
     ∷ write (late 2 0 0) "0.000000000 0 OverloadFrame\r\n"
     ∷ write (late 2 18446744073709551615 65535) "18446744073.709551615 65535 OverloadFrame\r\n"
     ∷ write (late 1 18446744073709551615 65535) "184467440737095.516150000 65535 OverloadFrame\r\n"
+    ∷ write (lateSecond 2 1000000 1) "0.001000000 1 OverloadFrame\r\n"
+    ∷ write (lateSecond 1 100 1) "0.001000000 1 OverloadFrame\r\n"
     ∷ write (load 65535) "1.010000000 1 Statistic: D 1000 R 15 XD 2 XR 4 E 5 O 4294967295 B 655.35%\r\n"
     ∷ write (load 5) "1.010000000 1 Statistic: D 1000 R 15 XD 2 XR 4 E 5 O 4294967295 B 0.05%\r\n"
     ∷ []
@@ -238,5 +247,5 @@ wanted [] = []
 wanted (w ∷ ws) = w .gives ∷ wanted ws
 
 pub lines-written : written writes ≡ wanted writes
-unfolding written wanted writes write header frame late load eight secondsOf nanosOf headTold kept frameTold countsTold tells noFrame noCounts ofMessage ofOverload ofStatistic shown glyph fixed fewest decimal hex pairs labelled headOf idOf frameOf loadOf countsOf restOf lineOf
+unfolding written wanted writes write header second frame late lateSecond load eight secondsOf nanosOf headTold kept frameTold countsTold tells noFrame noCounts ofMessage ofOverload ofStatistic shown glyph fixed fewest decimal hex pairs labelled headOf idOf frameOf loadOf countsOf restOf lineOf
 lines-written = refl

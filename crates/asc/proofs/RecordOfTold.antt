@@ -13,6 +13,7 @@ use Rattle.fields.proofs.BigEndian.{bytes-cons, bytes-append}
 use Rattle.digits.specs.Reading.{number}
 use Rattle.digits.specs.Pairs.{bytesIn, filled}
 use Rattle.digits.proofs.PairLaws.{length-bytes, byte-low}
+use Rattle.headers.specs.declared.header.Origin.the-variants.{First}
 use Rattle.headers.specs.declared.header.Header.{Header}
 use Rattle.headers.specs.Header.{Fit}
 use Rattle.can.specs.declared.message.Message.{Message}
@@ -67,13 +68,13 @@ id-mark false id h = lt-leb 2147483648 (id + 0) (omega arith)
 -- a head with a possible time, and a header that tells it
 module _ (h : Head) (low : h .channel < 65536) (st : Stamped (h .seconds) (h .nanos)) where
   abbrev header : Header
-  header = record { unit = st .unit; client = 0; version = 0; stamp = st .stamp }
+  header = record { unit = st .unit; origin = First 0; version = 0; stamp = st .stamp }
 
   header-fit : Fit header
   header-fit =
       record {
         unit = units (λ (v : ℕ). v < 4294967296) (omega arith) (omega arith) (st .unit) (st .known);
-        client = omega arith;
+        origin = omega arith;
         version = omega arith;
         stamp = omega (arith, st .fits);
       }

@@ -6,15 +6,16 @@ use Prim.Native.Nat.{ℕ, _≤_, _<_}
 use borrow.Author.Tests.{le-leb, lt-leb, eqb-true, eq-eqb, ne-eqb}
 use lib.ListN.{length}
 use lib.Dec.{eqb}
-use Rattle.headers.specs.Format.{headSize, sizeAt, kindAt, lengthAt, bodyOf}
+use Rattle.headers.specs.Format.{headSize, sizeAt, kindAt, lengthAt, bodyOf, headerBlank}
 use Rattle.headers.specs.Rows.{rowOf, listed}
 use Rattle.headers.specs.Layout.{Sized}
-use Rattle.headers.specs.HeadTests.{headFault}
+use Rattle.headers.specs.HeadTests.{first, headFault, blankFault}
 use Rattle.headers.specs.Form.{bodyFault}
 use Rattle.headers.specs.Types.{numberOf, canMessage, overload, statistic}
 use Rattle.objects.specs.Kinds.{formatOf}
-use Rattle.objects.specs.Faults.{bodyFaultOf}
-use Rattle.objects.proofs.KindLaws.{arm, arm-free}
+use Rattle.objects.specs.Faults.{bodyFaultOf, innerFaultOf}
+use Rattle.objects.proofs.KindLaws.{arm, arm-free, listed-inner, unlisted-inner}
+use Rattle.headers.proofs.Heads.{passes}
 use Rattle.headers.proofs.Bodies.{object-held, sized-least}
 use Rattle.headers.proofs.TypeKinds.{known}
 use Rattle.can.specs.declared.message.Message.{Message}
@@ -55,27 +56,49 @@ module _ (o : List ℕ) where
       other-size h = rw (le-leb headSize (length o) long, eq-eqb (headFault o) 0 head, ne-eqb (sizeAt o) (length o) h)
 
       module _ (size : sizeAt o ≡ length o) where
-        -- then the body decides
-        body-decides : {b : Bool} → eqb (bodyFaultOf (kindAt o) (bodyOf o)) 0 ≡ b → cond b (eventAs (kindAt o) o) none ≡ eventIn o
+        -- then 8 and 9 decide
+        inner-decides : {b : Bool} → eqb (innerFaultOf (kindAt o) o) 0 ≡ b → cond b (eventAs (kindAt o) o) none ≡ eventIn o
         unfolding eventIn whole
-        body-decides e = rw (le-leb headSize (length o) long, eq-eqb (headFault o) 0 head, eq-eqb (sizeAt o) (length o) size, e)
+        inner-decides e = rw (le-leb headSize (length o) long, eq-eqb (headFault o) 0 head, eq-eqb (sizeAt o) (length o) size, e)
 
-        pub overload-body : {x : ℕ} → kindAt o ≡ numberOf overload → x ≡ bodyFault (formatOf overload) (bodyOf o) → cond (eqb x 0) (eventAs (kindAt o) o) none ≡ eventIn o
-        overload-body {x} k e = body-decides (ap (λ (n : ℕ). eqb n 0) (sym (arm overload (bodyOf o) k e)))
+        -- which a foreign object does not meet
+        pub foreign-free : listed (rowOf (kindAt o)) ≡ false → eventAs (kindAt o) o ≡ eventIn o
+        foreign-free l = inner-decides (ap (λ (n : ℕ). eqb n 0) (sym (unlisted-inner (kindAt o) o l)))
 
-        free : 0 ≡ bodyFaultOf (kindAt o) (bodyOf o) → eventAs (kindAt o) o ≡ eventIn o
-        free e = body-decides (ap (λ (n : ℕ). eqb n 0) (sym e))
+        module _ (l : listed (rowOf (kindAt o)) ≡ true) where
+          -- the header's own reserved byte
+          pub header-unclean : headerBlank o ≡ false → none ≡ eventIn o
+          unfolding blankFault first
+          header-unclean z =
+              let e : 8 ≡ innerFaultOf (kindAt o) o = (let f : 8 ≡ blankFault o (bodyFaultOf (kindAt o) (bodyOf o)) = rw z in f) ∙ listed-inner (kindAt o) o l in
+              inner-decides (ap (λ (n : ℕ). eqb n 0) (sym e))
 
-        -- the message and the statistic have no reserved byte and no rule; and other types no line
-        pub other-body : (kindAt o ≡ numberOf overload → ⊥) → eventAs (kindAt o) o ≡ eventIn o
-        other-body h = cases (eqb (kindAt o) (numberOf canMessage)) (eqb (kindAt o) (numberOf statistic)) refl refl
-          where
-            cases : (a b : Bool) → eqb (kindAt o) (numberOf canMessage) ≡ a → eqb (kindAt o) (numberOf statistic) ≡ b → eventAs (kindAt o) o ≡ eventIn o
-            cases true b p q = free (arm-free canMessage (bodyOf o) (eqb-true _ _ p) refl)
-            cases false true p q = free (arm-free statistic (bodyOf o) (eqb-true _ _ q) refl)
-            cases false false p q = no-line o (kindAt o) p (ne-eqb (kindAt o) (numberOf overload) h) q ∙ sym (none-in o (no-line o (kindAt o) p (ne-eqb (kindAt o) (numberOf overload) h) q))
+          module _ (clean : headerBlank o ≡ true) where
+            body-decides : {x : ℕ} → x ≡ bodyFaultOf (kindAt o) (bodyOf o) → cond (eqb x 0) (eventAs (kindAt o) o) none ≡ eventIn o
+            unfolding blankFault
+            body-decides {x} e =
+                let f : innerFaultOf (kindAt o) o ≡ x = sym (listed-inner (kindAt o) o l) ∙ passes 8 _ clean ∙ sym e in
+                inner-decides (ap (λ (n : ℕ). eqb n 0) f)
 
--- the body of an overload is there
+            pub overload-body : {x : ℕ} → kindAt o ≡ numberOf overload → x ≡ bodyFault (formatOf overload) (bodyOf o) → cond (eqb x 0) (eventAs (kindAt o) o) none ≡ eventIn o
+            overload-body k e = body-decides (arm overload (bodyOf o) k e)
+
+            free : 0 ≡ bodyFaultOf (kindAt o) (bodyOf o) → eventAs (kindAt o) o ≡ eventIn o
+            free e = body-decides e
+
+            -- the message and the statistic have no reserved byte and no rule in their bodies; and other types no line
+            pub other-body : (kindAt o ≡ numberOf overload → ⊥) → eventAs (kindAt o) o ≡ eventIn o
+            other-body h = cases (eqb (kindAt o) (numberOf canMessage)) (eqb (kindAt o) (numberOf statistic)) refl refl
+              where
+                cases : (a b : Bool) → eqb (kindAt o) (numberOf canMessage) ≡ a → eqb (kindAt o) (numberOf statistic) ≡ b → eventAs (kindAt o) o ≡ eventIn o
+                cases true b p q = free (arm-free canMessage (bodyOf o) (eqb-true _ _ p) refl)
+                cases false true p q = free (arm-free statistic (bodyOf o) (eqb-true _ _ q) refl)
+                cases false false p q = no-line o (kindAt o) p (ne-eqb (kindAt o) (numberOf overload) h) q ∙ sym (none-in o (no-line o (kindAt o) p (ne-eqb (kindAt o) (numberOf overload) h) q))
+
+-- a listed object's header is there, and an overload's body
+pub header-there : (o : List ℕ) → headFault o ≡ 0 → sizeAt o ≡ length o → listed (rowOf (kindAt o)) ≡ true → lengthAt o ≤ length o
+header-there o h z l = object-held o h z l .0
+
 pub overload-held : (o : List ℕ) → headFault o ≡ 0 → sizeAt o ≡ length o → kindAt o ≡ numberOf overload → (lengthAt o ≤ length o) × (4 ≤ length (bodyOf o))
 overload-held o h z k =
     let l : listed (rowOf (kindAt o)) ≡ true = ap (λ (n : ℕ). listed (rowOf n)) k ∙ known overload in

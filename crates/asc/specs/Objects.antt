@@ -5,14 +5,14 @@ use mathlib.Core.Bool.{Bool, cond, _&&_}
 use mathlib.Core.List.{List}
 use lib.ListN.{length}
 use lib.Dec.{eqb, leb}
-use Rattle.headers.specs.Format.{headSize, sizeAt, kindAt, bodyOf}
+use Rattle.headers.specs.Format.{headSize, sizeAt, kindAt}
 use Rattle.headers.specs.HeadTests.{headFault}
 use Rattle.headers.specs.Types.{numberOf}
 use Rattle.headers.specs.Types as kind
 use Rattle.objects.specs.declared.Cursor.{Cursor}
 use Rattle.objects.specs.declared.Answer.{Answer}
 use Rattle.objects.specs.declared.Answer.the-variants as answer
-use Rattle.objects.specs.Faults.{bodyFaultOf}
+use Rattle.objects.specs.Faults.{innerFaultOf}
 use Rattle.objects.specs.Next.{cursor, nextAt}
 use Rattle.objects.specs.Views.{objectAt}
 use Rattle.outcomes.specs.declared.Written.{Written}
@@ -30,7 +30,7 @@ whole o =
     leb headSize (length o)
     && (eqb (headFault o) 0
     && (eqb (sizeAt o) (length o)
-    && eqb (bodyFaultOf (kindAt o) (bodyOf o)) 0))
+    && eqb (innerFaultOf (kindAt o) o) 0))
 
 -- by a type's number, the event that an object's record is
 unfoldable pub eventAs : ℕ → List ℕ → Found

@@ -27,6 +27,12 @@ fn is_whole(o: &[u8]) -> bool
     if fields::get32(o, 8) as usize != o.len() {
         return false;
     }
+    if !row.is_listed() {
+        return true;
+    }
+    if !headers::header_blank(o) {
+        return false;
+    }
     if kind != headers::CAN_OVERLOAD {
         return true;
     }

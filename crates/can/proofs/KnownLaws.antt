@@ -13,6 +13,7 @@ use denote.Struct.Laws.{val}
 use borrow.Author.Needs.{needs}
 use Rattle.headers.specs.Format.{unitOk}
 use Rattle.headers.specs.Form.{Valid}
+use Rattle.headers.proofs.Known.{header-known}
 use Rattle.can.specs.Fields.{messageFormat, overloadFormat, statisticFormat}
 use Rattle.can.specs.Tables.{messageSlots, messageForm, overloadSlots, overloadForm, counterSlots, statisticSlots, statisticForm}
 use Rattle.can.specs.declared.message.Message.{Message}
@@ -30,12 +31,13 @@ unfolding messageSlots
 message-known r g u =
     let byte : (i : ℕ) → Fits w8 (getD (r .bytes) i 0) = λ i. search (needs, g .1 .1 .1 .1 .1 .1 .1 .0) in
     let bytes : (i : ℕ) → i < 8 → getD (r .bytes) i 0 < 256 ^ 1 = λ i l. byte i .fits in
-    search (needs, g, u, bytes)
+    let h = header-known (r .header) _ (g .1 .1 .0) in
+    search (needs, g, u, h, bytes)
 
 pub overload-known : (r : Overload) → Is (struct.row overload.the-type) r (val overload.the-type overload-laws.the-laws r ∷ []) → unitOk (r .header .unit) ≡ true → Valid overloadFormat overloadForm r
 unfolding overloadSlots
-overload-known r g u = search (needs, g, u)
+overload-known r g u = let h = header-known (r .header) _ (g .1 .1 .0) in search (needs, g, u, h)
 
 pub statistic-known : (r : Statistic) → Is (struct.row statistic.the-type) r (val statistic.the-type statistic-laws.the-laws r ∷ []) → unitOk (r .header .unit) ≡ true → Valid statisticFormat statisticForm r
 unfolding statisticSlots counterSlots
-statistic-known r g u = search (needs, g, u)
+statistic-known r g u = let h = header-known (r .header) _ (g .1 .1 .0) in search (needs, g, u, h)

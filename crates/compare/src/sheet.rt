@@ -1,6 +1,7 @@
 // A sheet: a reply of 40 bytes, and behind it a record's numbers, eight bytes each. What does not fit is left out.
 use cases::Reply;
 use headers::Header;
+use headers::Origin;
 use objects::Cursor;
 use outcomes::ReadAnswer;
 ghost use Prim.Native.Nat.{_≤_};
@@ -111,12 +112,36 @@ pub fn put_run(out: &mut [u8], from: usize, bytes: &[u8]) -> usize
     from + bytes.len()
 }
 
+// The numbers of a header: the unit; which header it is; what stands at byte 20, the client index or the time stamp
+// status; version, time stamp; and the original time stamp, 0 where the header has none.
+fn header_numbers(h: Header) -> [u64; 6] {
+    let origin = h.origin;
+    match origin {
+        Origin::First { client } => [
+            wide32(h.unit),
+            1,
+            wide16(client),
+            wide16(h.version),
+            h.stamp,
+            0,
+        ],
+        Origin::Second { status, original } => [
+            wide32(h.unit),
+            2,
+            wide8(status),
+            wide16(h.version),
+            h.stamp,
+            original,
+        ],
+    }
+}
+
 // Puts the numbers of a header, the first of every record.
 pub fn put_header(out: &mut [u8], h: Header) -> usize
     requires { ⌜ 40 ≤ length (now out) ⌝ }
     ensures { λ r. ⌜ Kept r (now (out .entry)) (now (out .exit)) ⌝ }
 {
-    let values = [h.unit as u64, h.client as u64, h.version as u64, h.stamp];
+    let values = header_numbers(h);
     put_all(out, FRONT, &values)
 }
 

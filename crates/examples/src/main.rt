@@ -1,7 +1,8 @@
-// Runs document 01's examples of reading and writing that are not marked, over the proved calls, and prints what came
-// out: a line an example. Those of slips, frames and foreign objects stand in `slip_examples`.
+// Runs document 01's examples of reading and writing that are not marked, and those of W-202, over the proved calls, and
+// prints what came out: a line an example. Those of slips, frames and foreign objects stand in `slip_examples`.
 mod reading;
 mod samples;
+mod second_header;
 mod tell;
 mod writing;
 
@@ -20,4 +21,9 @@ fn main() {
     writing::rooms();
     writing::counts();
     writing::orders();
+    second_header::sizes();
+    second_header::pairs();
+    second_header::reserved();
+    second_header::frames();
+    second_header::rooms();
 }

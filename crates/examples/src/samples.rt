@@ -1,5 +1,6 @@
 // Objects that the examples begin with, and records.
 use headers::Header;
+use headers::Origin;
 ghost use mathlib.Core.Path.{_≡_};
 ghost use lib.ListN.{length};
 
@@ -80,11 +81,24 @@ pub fn room() -> [u8; 1680]
     [0; 1680]
 }
 
-// A header with nanoseconds or another unit.
+// A first header with nanoseconds or another unit.
 pub fn header(unit: u32) -> Header {
     Header {
         unit,
-        client: 0,
+        origin: Origin::First { client: 0 },
+        version: 0,
+        stamp: 1000000,
+    }
+}
+
+// A second header in nanoseconds: status 1, original time stamp 5.
+pub fn second() -> Header {
+    Header {
+        unit: 2,
+        origin: Origin::Second {
+            status: 1,
+            original: 5,
+        },
         version: 0,
         stamp: 1000000,
     }

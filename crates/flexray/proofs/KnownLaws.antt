@@ -13,6 +13,7 @@ use denote.Struct.Laws.{val}
 use borrow.Author.Needs.{needs}
 use Rattle.headers.specs.Format.{unitOk}
 use Rattle.headers.specs.Form.{Valid}
+use Rattle.headers.proofs.Known.{header-known}
 use Rattle.flexray.specs.declared.receive.Receive.{Receive}
 use Rattle.flexray.specs.Fields.{countsOk, receiveFormat}
 use Rattle.flexray.specs.Tables.{originSlots, slotSlots, controllerSlots, receiveSlots, receiveForm}
@@ -25,7 +26,7 @@ receive-known r g u e =
     let byte : (i : ℕ) → Fits w8 (getD (r .bytes) i 0) = λ i. search (needs, g .1 .1 .1 .1 .1 .1 .1 .1 .1 .1 .1 .1 .1 .1 .1 .1 .1 .1 .0) in
     let bytes : (i : ℕ) → i < 254 → getD (r .bytes) i 0 < 256 ^ 1 = λ i l. byte i .fits in
     record {
-      header = search (needs, g);
+      header = header-known (r .header) _ (g .1 .1 .0);
       unit = u;
       fits = (search (needs, g), (search (needs, g), (search (needs, g), (search (needs, g), (tt, (search (needs, g), (search (needs, g), (search (needs, g), (search (needs, g), (search (needs, g), (search (needs, g), (search (needs, g), (search (needs, g), (tt, (search (needs, g), (search (needs, g), (search (needs, g), (tt, ((search (needs, g), bytes), tt)))))))))))))))))));
       extra = tt;

@@ -4,6 +4,8 @@ pub mod TypeSearch
 pub mod TypeKinds
 pub mod Objects
 pub mod Heads
+pub mod Origins
+pub mod Known
 pub mod Layouts
 pub mod Bodies
 pub mod Forms

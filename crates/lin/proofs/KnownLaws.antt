@@ -14,6 +14,7 @@ use denote.Enum.Declared as enum
 use borrow.Author.Needs.{needs}
 use Rattle.headers.specs.Format.{unitOk}
 use Rattle.headers.specs.Form.{Valid}
+use Rattle.headers.proofs.Known.{header-known}
 use Rattle.lin.specs.declared.wake_up.WakeUp.{WakeUp}
 use Rattle.lin.specs.declared.message.Message.{Message}
 use Rattle.lin.specs.declared.tail.Tail.{Tail}
@@ -30,7 +31,7 @@ use Rattle.lin.proofs.message.Message.Laws as message-laws
 pub wake-up-known : (r : WakeUp) → Is (struct.row wake-up.the-type) r (val wake-up.the-type wake-up-laws.the-laws r ∷ [])
     → unitOk (r .header .unit) ≡ true → Valid wakeUpFormat wakeUpForm r
 unfolding busSlots wakeUpSlots
-wake-up-known r g u = search (needs, g, u)
+wake-up-known r g u = let h = header-known (r .header) _ (g .1 .1 .0) in search (needs, g, u, h)
 
 tail-known : (t : Tail) (vs : List Val) → Is (enum.row tail.the-type) t vs → FitTail t
 tail-known Nothing vs g = tt
@@ -49,7 +50,7 @@ message-known r g u e =
     let bytes : (i : ℕ) → i < 8 → getD (r .bytes) i 0 < 256 ^ 1 = λ i l. byte i .fits in
     let ending = tail-known (r .tail) _ (at-tail .0) in
     record {
-      header = search (needs, g);
+      header = header-known (r .header) _ (g .1 .1 .0);
       unit = u;
       fits = (search (needs, g), (search (needs, g), (search (needs, g), (tt, (search (needs, g), (search (needs, g), (search (needs, g), (search (needs, g), (search (needs, g), (search (needs, g), (search (needs, g), (search (needs, g), ((search needs, stamps), ((search needs, bytes), (search (needs, g), (search (needs, g), (search (needs, g), (search (needs, g), (search (needs, g), (search (needs, g), (search (needs, g), (search (needs, g), (tt, tt)))))))))))))))))))))));
       extra = ending;

@@ -6,6 +6,7 @@ pub mod Steps
 pub mod Standing
 pub mod Rows
 pub mod Refusals
+pub mod TwoHeaders
 pub mod Walks
 pub mod Entries
 pub mod Exact

@@ -10,6 +10,7 @@ fn main() {
     slip::desks();
     slip::ninth();
     slip::troubles();
+    slip::headers();
     slip::damage();
     writing::frames();
     writing::foreigners();

@@ -1,5 +1,6 @@
 // The log and the slips that the examples begin with.
 use headers::Header;
+use headers::Origin;
 ghost use mathlib.Core.Path.{_≡_};
 ghost use lib.ListN.{length};
 
@@ -7,7 +8,7 @@ ghost use lib.ListN.{length};
 pub fn header() -> Header {
     Header {
         unit: 2,
-        client: 0,
+        origin: Origin::First { client: 0 },
         version: 0,
         stamp: 1000000,
     }
@@ -36,6 +37,37 @@ pub fn overloads() -> [u8; 72]
     let mut log = [0u8; 72];
     fields::put_bytes(&mut log, 0, &one);
     fields::put_bytes(&mut log, 36, &one);
+    log
+}
+
+// An overload under the second header: status 1, original time stamp 5.
+pub fn second_overload() -> [u8; 44]
+    ensures { λ r. ⌜ 44 ≡ length r ⌝ }
+{
+    let mut log = [0u8; 44];
+    let origin = Origin::Second {
+        status: 1,
+        original: 5,
+    };
+    let header = Header {
+        unit: 2,
+        origin,
+        version: 0,
+        stamp: 1000000,
+    };
+    can_records::write_overload(can::Overload { header, channel: 1 }, &mut log);
+    log
+}
+
+// An overload under each header.
+pub fn two_headers() -> [u8; 80]
+    ensures { λ r. ⌜ 80 ≡ length r ⌝ }
+{
+    let one = overload();
+    let two = second_overload();
+    let mut log = [0u8; 80];
+    fields::put_bytes(&mut log, 0, &one);
+    fields::put_bytes(&mut log, 36, &two);
     log
 }
 

@@ -45,6 +45,19 @@ pub fn troubles() {
     tell::check(b"the second overload on no slip: ", &log, &one);
 }
 
+// A log with both headers: a slip has the size that the object says.
+pub fn headers() {
+    let log = samples::two_headers();
+    let mut bundle = samples::both();
+    tell::check(
+        b"an overload of size 44 named with size 36: ",
+        &log,
+        &bundle,
+    );
+    bundle[25] = 44;
+    tell::check(b"named with size 44: ", &log, &bundle);
+}
+
 pub fn damage() {
     let mut log = samples::overloads();
     log[36] = 0;

@@ -3,17 +3,19 @@
 -- refused. Assumes nothing.
 use Prim.Native.Nat.{ℕ, zero, suc}
 use mathlib.Core.Path.{_≡_, refl, ap, _∙_}
-use mathlib.Core.List.{List, []}
+use mathlib.Core.List.{List, [], _++_}
 use native.Mathlib.Omega.{arith}
 use lib.ListN.{length, getD, length-replicate}
 use Rattle.fields.specs.Numbers.{val, num, nums, allZero, zeros}
 use Rattle.fields.specs.Digits.{le, array}
 use Rattle.fields.specs.Slots as slots
-use Rattle.headers.specs.Format.{padding, lengthAt, headerOf, unitOk}
-use Rattle.headers.specs.Types.{Kind, canMessage, overload, statistic, receive, linMessage, wakeUp, ethernetStatus, frame, forwardedFrame, ethernetError, forwardedError, typeList}
+use Rattle.headers.specs.declared.header.Origin.{Origin}
+use Rattle.headers.specs.declared.header.Origin.the-variants.{First, Second}
+use Rattle.headers.specs.Format.{padding, isFirst, isSecond, lengthAt, originAt, headerOf, unitOk, headerBlank}
+use Rattle.headers.specs.Types.{Kind, canMessage, overload, statistic, receive, linMessage, wakeUp, ethernetStatus, frame, forwardedFrame, ethernetError, forwardedError, numberOf, typeList}
 use Rattle.headers.specs.Rows.{rowIn, allowed}
 use Rattle.headers.specs.Header as header
-use Rattle.headers.specs.HeadTests.{first, headerFits}
+use Rattle.headers.specs.HeadTests.{first, pairOk, lengthFits}
 use Rattle.can.specs.Fields as can
 use Rattle.can.specs.Tables as can-table
 use Rattle.flexray.specs.Fields as flexray
@@ -38,12 +40,17 @@ use Rattle.wrong_programs.specs.Readers.{counts}
 use Rattle.wrong_programs.specs.Records.{constant, writesNothing}
 use Rattle.wrong_programs.specs.Wrong.{walk, read, write, Meets}
 
+-- the client index, which the first header has
+abbrev clientBy : Origin → ℕ
+clientBy (First client) = client
+clientBy (Second status original) = 0
+
 abbrev clientAt : (k : Kind) → Record k → ℕ
-clientAt k r = layoutOf k .header r .client
+clientAt k r = clientBy (layoutOf k .header r .origin)
 
 -- the client index that is read is the sample's
 client : (k : Kind) → (clientAt k (recordAt k (byClient k 0) 0) ≡ 0) × (clientAt k (recordAt k (byClient k 1) 0) ≡ 1)
-unfolding byClient hex nextAt answered faultOf find lengthAt headerOf unitOk typeList rowIn allowed headerFits first padding num val nums le array allZero slots.bytesOf lookAt recordIn recordAt header.object header.lengthOf header.header header.head can.messageOf can.overloadOf can.statisticOf can-table.messageSlots can-table.overloadSlots can-table.statisticSlots can-table.counterSlots flexray.receiveOf flexray.countsOk flexray-table.receiveSlots flexray-table.originSlots flexray-table.slotSlots flexray-table.controllerSlots lin.tailOf lin.messageOf lin.wakeUpOf lin-tail.tail lin-table.messageSlots lin-table.synchSlots lin-table.busSlots lin-table.descriptorSlots lin-table.statusSlots lin-table.machineSlots lin-table.wakeUpSlots ethernet.statusOf ethernet.frameOf ethernet.errorOf ethernet-table.statusSlots ethernet-table.eightSlots ethernet-table.frameSlots ethernet-table.errorSlots ethernet-table.eventSlots ethernet-table.originSlots ethernet-table.transmissionSlots
+unfolding byClient hex nextAt answered faultOf find isFirst isSecond lengthAt originAt headerOf unitOk headerBlank typeList rowIn allowed pairOk lengthFits first padding num val nums le array allZero slots.bytesOf lookAt recordIn recordAt header.object header.lengthBy header.headerBy header.head can.messageOf can.overloadOf can.statisticOf can-table.messageSlots can-table.overloadSlots can-table.statisticSlots can-table.counterSlots flexray.receiveOf flexray.countsOk flexray-table.receiveSlots flexray-table.originSlots flexray-table.slotSlots flexray-table.controllerSlots lin.tailOf lin.messageOf lin.wakeUpOf lin-tail.tail lin-table.messageSlots lin-table.synchSlots lin-table.busSlots lin-table.descriptorSlots lin-table.statusSlots lin-table.machineSlots lin-table.wakeUpSlots ethernet.statusOf ethernet.frameOf ethernet.errorOf ethernet-table.statusSlots ethernet-table.eightSlots ethernet-table.frameSlots ethernet-table.errorSlots ethernet-table.eventSlots ethernet-table.originSlots ethernet-table.transmissionSlots
 client canMessage = (refl, refl)
 client overload = (refl, refl)
 client statistic = (refl, refl)
@@ -67,7 +74,7 @@ unfolding walkOf metAt nextAt
 count-0 = refl
 
 count-1 : walkOf m2 ≡ walked.Count 1
-unfolding m2 hex walkOf metAt nextAt answered faultOf find lengthAt headerOf unitOk typeList rowIn allowed headerFits first padding num val le allZero
+unfolding m2 hex walkOf metAt nextAt answered faultOf find isFirst isSecond lengthAt originAt headerOf unitOk headerBlank typeList rowIn allowed pairOk lengthFits first padding num val le allZero
 count-1 = refl
 
 pub no-constant-count : (n : ℕ) → Meets (walk (counts n) []) → Meets (walk (counts n) m2) → ⊥
@@ -82,8 +89,12 @@ first-zero zero = refl
 first-zero (suc n) = refl
 
 first-byte : (k : Kind) (r : Record k) (out : List ℕ) → getD (bufferOf 0 (padded (known k r)) out) 0 0 ≡ 76
-unfolding bytesOf header.object header.lengthOf header.header header.head
-first-byte k r out = refl
+unfolding bytesOf header.object header.headerBy header.head
+first-byte k r out = by (layoutOf k .header r .origin) _ _ _ _
+  where
+    by : (o : Origin) (size : ℕ) (a b c : List ℕ) → getD (((header.headerBy (numberOf k) size (layoutOf k .header r) o ++ a) ++ b) ++ c) 0 0 ≡ 76
+    by (First client) size a b c = refl
+    by (Second status original) size a b c = refl
 
 pub something-written : (k : Kind) (r : Record k) (n : ℕ) → refusalOf (known k r) n ≡ 0 → Meets (write writesNothing (known k r) (zeros n)) → ⊥
 something-written k r n e m =

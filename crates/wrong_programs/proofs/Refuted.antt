@@ -12,11 +12,11 @@ use Rattle.fields.specs.Numbers.{val, num, big, nums, allZero}
 use Rattle.fields.specs.Digits.{le}
 use Rattle.fields.specs.Slots as slots
 use Rattle.fields.proofs.Zeros.{both-true}
-use Rattle.headers.specs.Format.{padding, lengthAt, headerOf, unitOk}
+use Rattle.headers.specs.Format.{padding, isFirst, isSecond, lengthAt, originAt, headerOf, unitOk, headerBlank}
 use Rattle.headers.specs.Types.{typeList}
 use Rattle.headers.specs.Rows.{rowIn, allowed}
 use Rattle.headers.specs.Header as header
-use Rattle.headers.specs.HeadTests.{first, headerFits}
+use Rattle.headers.specs.HeadTests.{first, pairOk, lengthFits}
 use Rattle.can.specs.Fields.{overloadOf}
 use Rattle.can.specs.Tables.{overloadSlots}
 use Rattle.lin.specs.Fields.{tailOf, messageOf}
@@ -41,7 +41,7 @@ use Rattle.slips.specs.Soonest.{troubleOf}
 use Rattle.slips.specs.Check.{checkOf}
 use Rattle.marked_examples.specs.Hex.{hex}
 use Rattle.marked_examples.specs.Marked.{m2, m9, m11}
-use Rattle.wrong_programs.specs.Samples.{seventeen, unclean, wrapping, lin168, m12, otherSize, otherType, strayAndTwice, twenty}
+use Rattle.wrong_programs.specs.Samples.{seventeen, unclean, wrapping, lin168, second, m12, otherSize, otherType, strayAndTwice, twenty}
 use Rattle.wrong_programs.specs.Wrong.{Trial, step, walk, read, write, check, Meets, Wrong, wrongs, AllRefuted}
 
 -- answers as numbers
@@ -115,7 +115,7 @@ refuted (w ∷ ws) e =
     (differ (w .tried) (not-true _ (h .0)), refuted ws (h .1))
 
 computed : noneSame wrongs ≡ true
-unfolding noneSame same wrongs m2 m9 m11 m12 seventeen unclean wrapping lin168 otherSize otherType strayAndTwice twenty hex walkOf metAt nextAt answered faultOf find lengthAt headerOf unitOk typeList rowIn allowed headerFits first padding num val nums le allZero lookAt recordIn recordAt overloadOf tailOf messageOf header.object header.lengthOf header.header header.head slots.bytesOf overloadSlots bytesOf refusalOf checkOf cutOf cut.faultOf shapeOk big troubleOf
+unfolding noneSame same wrongs m2 m9 m11 m12 seventeen unclean wrapping lin168 second otherSize otherType strayAndTwice twenty hex walkOf metAt nextAt answered faultOf find isFirst isSecond lengthAt originAt headerOf unitOk headerBlank typeList rowIn allowed pairOk lengthFits first padding num val nums le allZero lookAt recordIn recordAt overloadOf tailOf messageOf header.object header.lengthBy header.headerBy header.head slots.bytesOf overloadSlots bytesOf refusalOf checkOf cutOf cut.faultOf shapeOk big troubleOf
 computed = refl
 
 pub all-refuted : AllRefuted wrongs

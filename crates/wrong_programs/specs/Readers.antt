@@ -2,11 +2,12 @@
 -- is, and its walk.
 use Prim.Native.Nat.{ℕ, zero, suc, _+_, _%_}
 use mathlib.Core.Bool.{Bool, cond, not, _&&_, _||_}
-use mathlib.Core.List.{List, [], _∷_}
-use lib.ListN.{length, drop}
+use mathlib.Core.List.{List, [], _∷_, _++_}
+use lib.ListN.{length, take, drop}
 use lib.Dec.{eqb, leb}
-use Rattle.headers.specs.Format.{extent, sizeAt, kindAt}
-use Rattle.headers.specs.Rows.{rowOf, listed}
+use Rattle.fields.specs.Numbers.{num}
+use Rattle.headers.specs.Format.{extent, sizeAt, kindAt, headerBlank}
+use Rattle.headers.specs.Rows.{rowOf, listed, allowed}
 use Rattle.objects.specs.declared.Step.{Step}
 use Rattle.objects.specs.declared.Answer.{Answer}
 use Rattle.objects.specs.declared.Answer.the-variants.{Object, Done, Refused}
@@ -74,6 +75,25 @@ behind32 s at = behind s at % 4294967296
 
 abbrev pub sum32 : List ℕ → ℕ → Step
 sum32 = stepBy (λ s at. firstOf (letThrough 5 (leb (behind32 s at) (length s)) (table (drop at s)))) behind32
+
+-- W-202: tries 3 before 4 for the listed types too
+abbrev pub threeBeforeFour : List Row → List Row
+threeBeforeFour rs = take 2 rs ++ take 1 (drop 3 rs) ++ take 1 (drop 2 rs) ++ drop 4 rs
+
+abbrev pub sizeFirst : List ℕ → ℕ → Step
+sizeFirst = stepBy (λ s at. firstOf (threeBeforeFour (table (drop at s)))) behind
+
+-- W-202: lets version 2 with length 32 through
+abbrev pub mixedPair : List ℕ → ℕ → Step
+mixedPair = stepBy (λ s at. firstOf (letThrough 4 (eqb (num 2 (drop at s) 4) 32 && eqb (num 2 (drop at s) 6) 2) (table (drop at s)))) behind
+
+-- W-202: takes the first header's sizes under the second
+abbrev pub firstSizes : List ℕ → ℕ → Step
+firstSizes = stepBy (λ s at. firstOf (letThrough 3 (allowed (rowOf (kindAt (drop at s))) (sizeAt (drop at s))) (table (drop at s)))) behind
+
+-- W-202: tests the reserved bytes of the body alone
+abbrev pub headerUntested : List ℕ → ℕ → Step
+headerUntested = stepBy (λ s at. firstOf (letThrough 8 (not (headerBlank (drop at s))) (table (drop at s)))) behind
 
 -- counts one object more than there is
 abbrev pub oneMore : Walked → Walked

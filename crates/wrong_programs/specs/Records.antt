@@ -2,10 +2,10 @@
 use Prim.Native.Nat.{ℕ, _+_}
 use mathlib.Core.List.{List}
 use lib.ListN.{length, drop}
-use Rattle.fields.specs.Numbers.{part}
-use Rattle.headers.specs.Format.{lengthAt}
-use Rattle.headers.specs.Types.{Kind, linMessage}
-use Rattle.objects.specs.Kinds.{Record}
+use Rattle.fields.specs.Numbers.{part, num}
+use Rattle.headers.specs.Format.{lengthAt, headerOf, bodyOf}
+use Rattle.headers.specs.Types.{Kind, overload, linMessage}
+use Rattle.objects.specs.Kinds.{Record, formatOf}
 use Rattle.objects.specs.Items.{Item, padded}
 use Rattle.outcomes.specs.declared.Written.{Written}
 use Rattle.outcomes.specs.declared.Written.the-variants.{Used}
@@ -18,6 +18,16 @@ constant k r s at = r
 -- reads every LIN message as one with an exact rate, whose body has 152 bytes
 abbrev pub exactRate : List ℕ → ℕ → Record linMessage
 exactRate s at = recordIn linMessage (part (lengthAt (drop at s) + 152) s at)
+
+-- W-202: reads the body of every overload at 32
+abbrev pub bodyAt32 : List ℕ → ℕ → Record overload
+bodyAt32 s at = formatOf overload .of (headerOf (drop at s)) (drop (at + 32) s)
+
+-- W-202: takes the original time stamp for the time stamp
+abbrev pub originalStamp : List ℕ → ℕ → Record overload
+originalStamp s at =
+    let o = drop at s in
+    formatOf overload .of (record { unit = headerOf o .unit; origin = headerOf o .origin; version = headerOf o .version; stamp = num 8 o 32 }) (bodyOf o)
 
 -- answers success and leaves the buffer as it was
 abbrev pub writesNothing : Item → List ℕ → Written × List ℕ

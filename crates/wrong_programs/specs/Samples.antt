@@ -2,6 +2,7 @@
 use Prim.Native.Nat.{ℕ}
 use mathlib.Core.List.{List, [], _++_}
 use Rattle.fields.specs.Numbers.{zeros}
+use Rattle.headers.specs.declared.header.Origin.the-variants.{First}
 use Rattle.headers.specs.Format.{padded}
 use Rattle.headers.specs.Header.{object}
 use Rattle.headers.specs.Types.{Kind, numberOf}
@@ -25,9 +26,13 @@ wrapping = hex "4C4F424A 1000 0000 F0FFFFFF 0F270000"
 unfoldable pub lin168 : List ℕ
 lin168 = hex "4C4F424A 2000 0100 A8000000 39000000 01000000" ++ zeros 148
 
--- an object of each type whose client index is this: unit 1, and the body of the record of zeros
+-- W-202: an overload under the second header, status 1, 1,000,000 ns, original time stamp 5, channel 1
+unfoldable pub second : List ℕ
+second = hex "4C4F424A 2800 0200 2C000000 03000000 02000000 01 00 0000 40420F0000000000 0500000000000000 0100 0000"
+
+-- an object of each type under the first header whose client index is this: unit 1, and the body of the record of zeros
 unfoldable pub byClient : Kind → ℕ → List ℕ
-byClient k client = padded (object (numberOf k) (record { unit = 1; client = client; version = 0; stamp = 0 }) (layoutOf k .body (recordIn k [])))
+byClient k client = padded (object (numberOf k) (record { unit = 1; origin = First client; version = 0; stamp = 0 }) (layoutOf k .body (recordIn k [])))
 
 -- M12: M11 and then desk 2 with the second entry alone
 unfoldable pub m12 : List ℕ

@@ -1,5 +1,5 @@
--- 01, "What a reader of the contracts must find" and "Slips of the pen": the wrong programs, each beside an input on
--- which its contract does not hold. `all-refuted` of proofs/Refuted says so of every row.
+-- 01, "What a reader of the contracts must find" and "Slips of the pen", and W-202's: the wrong programs, each beside an
+-- input on which its contract does not hold. `all-refuted` of proofs/Refuted says so of every row.
 use Prim.Native.Nat.{ℕ}
 use Prim.Native.String.{String}
 use mathlib.Core.Path.{_≡_}
@@ -21,7 +21,7 @@ use Rattle.outcomes.specs.Writes.{Outcome}
 use Rattle.slips.specs.declared.pass.Verdict.{Verdict}
 use Rattle.slips.specs.Check.{checkOf}
 use Rattle.marked_examples.specs.Marked.{m2, m9, m11}
-use Rattle.wrong_programs.specs.Samples.{seventeen, unclean, wrapping, lin168, m12, otherSize, otherType, strayAndTwice, twenty}
+use Rattle.wrong_programs.specs.Samples.{seventeen, unclean, wrapping, lin168, second, m12, otherSize, otherType, strayAndTwice, twenty}
 use Rattle.wrong_programs.specs.Readers as readers
 use Rattle.wrong_programs.specs.Readers.{walkBy}
 use Rattle.wrong_programs.specs.Records as records
@@ -73,6 +73,12 @@ wrongs =
     ∷ wrong "start and size added in 32 bits" (step readers.sum32 (m9 ++ wrapping) 16)
     ∷ wrong "a writer that writes nothing" (write records.writesNothing (known overload (recordAt overload m2 0)) (zeros 40))
     ∷ wrong "an exact rate out of a 168-byte LIN message" (read linMessage (λ m. endOf (m .tail)) records.exactRate (lin168 ++ m9) 0)
+    ∷ wrong "3 tried before 4 for a listed type" (step readers.sizeFirst (set (set m2 4 33) 8 5) 0)
+    ∷ wrong "version 2 with length 32 let through" (step readers.mixedPair (set m2 6 2) 0)
+    ∷ wrong "the first header's size under the second" (step readers.firstSizes (set second 8 36) 0)
+    ∷ wrong "byte 21 of the second header not tested" (walk (walkBy readers.headerUntested) (set second 21 1))
+    ∷ wrong "the second header's body read at 32" (read overload (λ r. r .channel) records.bodyAt32 second 0)
+    ∷ wrong "the original time stamp taken for the time stamp" (read overload (λ r. r .header .stamp) records.originalStamp second 0)
     ∷ wrong "a check that refuses everything" (check checks.refusesAll (m2 ++ m2) m11)
     ∷ wrong "a check that accepts everything" (check checks.acceptsAll (m2 ++ m2) [])
     ∷ wrong "a check that compares the first slip only" (check checks.firstSlipOnly (m2 ++ m2) m12)

@@ -5,6 +5,7 @@
 mod timed {
     use mshelovat_reference::asc::{self, LineAt};
     use mshelovat_reference::gen::{self, Rng};
+    use mshelovat_reference::header::Header::{self, First, Second};
     use mshelovat_reference::layout::{self, number, Refusal};
     use mshelovat_reference::library::{self, End, Read};
     use mshelovat_reference::object::{self, Answer};
@@ -62,16 +63,19 @@ mod timed {
         records::write_any(&records::record_of(bytes, &object), out)
     }
 
-    /// An object, now and then with a few bytes changed, but those of its type.
+    /// An object, now and then with a few bytes changed, but those of its type. A LIN message keeps its header's pair
+    /// too: under another header its length would be none that a LIN message has.
     fn offered(rng: &mut Rng, kinds: &[u32]) -> Vec<u8> {
         let kind = rng.pick(kinds);
         let mut object = match rng.below(6) {
             0 => gen::foreign(rng),
             _ => gen::object(rng, kind),
         };
+        let lin = layout::u32_at(&object, 12) == layout::kind::LIN_MESSAGE;
         for _ in 0..rng.below(3) {
             let at = rng.below(object.len());
-            if !(12..16).contains(&at) {
+            let kept = (12..16).contains(&at) || lin && (4..8).contains(&at);
+            if !kept {
                 object[at] = rng.byte();
             }
         }
@@ -218,12 +222,18 @@ mod timed {
         settled(log)
     }
 
-    /// Sound objects of these types whose sizes lie in this range.
-    fn pieces(rng: &mut Rng, kinds: &[u32], least: usize, most: usize) -> Vec<Vec<u8>> {
+    /// Sound objects under a header, of these types, whose sizes lie in this range.
+    fn pieces(
+        rng: &mut Rng,
+        header: Header,
+        kinds: &[u32],
+        least: usize,
+        most: usize,
+    ) -> Vec<Vec<u8>> {
         let mut pieces = Vec::new();
         while pieces.len() < 300 {
             let kind = rng.pick(kinds);
-            let object = gen::object(rng, kind);
+            let object = gen::object_under(rng, header, kind);
             if (least..=most).contains(&object.len()) {
                 pieces.push(gen::padded(object));
             }
@@ -321,6 +331,24 @@ mod timed {
         row("check, one slip with everything", 4);
     }
 
+    /// Times the walk alone.
+    fn time_walk(name: &str, pieces: &[Vec<u8>]) {
+        let log = log_of(pieces, &mut Rng(17));
+        let objects = object::walk(&log);
+        assert_eq!(library::walk(&log), objects);
+        let [proved, plain, memory] = best(
+            RUNS,
+            [
+                &|| count(library::walk(black_box(&log))),
+                &|| count(object::walk(black_box(&log))),
+                &|| read(black_box(&log)),
+            ],
+        );
+        let n = count(objects);
+        let what = format!("{name}, {n} objects: walk");
+        print(&what, log.len(), n, proved, plain, memory);
+    }
+
     /// Every line of a log, one after the other into a buffer that is cleared first: the sum of their lengths and of
     /// a byte of each. All bytes of a line have to be there.
     fn all_lines(log: &[u8], line_at: impl Fn(&[u8], usize, &mut [u8]) -> LineAt) -> u64 {
@@ -393,17 +421,25 @@ mod timed {
         );
         println!("|---|---|---|---|---|---|---|");
         let rng = &mut Rng(3);
-        time("48 to 1,676 bytes", &pieces(rng, &gen::LISTED, 48, 1_676));
-        time("48 bytes (CAN)", &pieces(rng, &[1], 48, 48));
-        time("1,676 bytes (Ethernet)", &pieces(rng, &[120], 1_676, 1_676));
+        let [all, can, ethernet, foreign] = [&gen::LISTED[..], &[1], &[120], &[9_999]];
+        time("48 to 1,676 bytes", &pieces(rng, First, all, 48, 1_676));
+        time("48 bytes (CAN)", &pieces(rng, First, can, 48, 48));
+        time(
+            "1,676 bytes (Ethernet)",
+            &pieces(rng, First, ethernet, 1_676, 1_676),
+        );
         time(
             "16 to 2,000 bytes, foreign",
-            &pieces(rng, &[9_999], 16, 2_000),
+            &pieces(rng, First, foreign, 16, 2_000),
         );
-        time_lines("48 bytes (CAN)", &pieces(rng, &[1], 48, 48));
+        time_lines("48 bytes (CAN)", &pieces(rng, First, can, 48, 48));
         time_lines(
             "36 to 60 bytes (CAN, types 1, 3, 4)",
-            &pieces(rng, &CAN, 36, 60),
+            &pieces(rng, First, &CAN, 36, 60),
+        );
+        time_walk(
+            "56 bytes (CAN), second header",
+            &pieces(rng, Second, can, 56, 56),
         );
     }
 }

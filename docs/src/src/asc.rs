@@ -18,7 +18,7 @@ mod read;
 
 pub use read::read_line;
 
-use crate::header::{body, SHORT_HEADER};
+use crate::header::SHORT_HEADER;
 use crate::layout::*;
 use crate::object::{head_holds, reserved_holds, step, Answer};
 use crate::records::{record_in, CanMessage, CanOverload, CanStatistic, Head, Record};
@@ -126,7 +126,8 @@ fn refused(number: u8) -> Result<usize, Refusal> {
     Err(Refusal::new(number, 0))
 }
 
-/// The time in whole seconds and the nanoseconds over; none for a wrong unit.
+/// The time stamp in whole seconds and the nanoseconds over, never the original
+/// one; none for a wrong unit.
 fn time(head: &Head) -> Option<(u64, u32)> {
     match head.unit {
         1 => Some((head.time / 100_000, (head.time % 100_000) as u32 * 10_000)),
@@ -216,11 +217,12 @@ fn whole_line(kind: u32, object: &[u8], out: &mut [u8]) -> Result<usize, Refusal
 }
 
 /// Are these 16 bytes or more, of a listed type, one whole object, without
-/// padding? 1 to 6 and 8 are asked; 7 is not, and 9 has nothing to say to CAN.
+/// padding, under either header? 1 to 6 and 8 are asked, 8 of the header too; 7
+/// is not, and 9 has nothing to say to CAN.
 fn is_whole(object: &[u8], row: &Row) -> bool {
     head_holds(object)
         && u64::from(u32_at(object, 8)) == object.len() as u64
-        && reserved_holds(body(object), row)
+        && reserved_holds(object, row)
 }
 
 /// The line of the object that these bytes are, without padding. Bytes that

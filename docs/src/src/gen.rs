@@ -12,16 +12,17 @@
 //! ```
 
 mod bundles;
+mod headers;
 mod logs;
 mod records;
 
 pub use bundles::{any_bundle, bundle_bytes, damaged_bundle, honest_bundle, honest_slips};
 pub use bundles::{Fault, Slip, FAULTS};
-pub use logs::{
-    an_object, any_log, damaged_log, damaged_log_at, foreign, long_log, object, padded, position,
-};
-pub use logs::{sound_log, twice_damaged_log, Damage, DAMAGES, LISTED};
-pub use records::{any_record, frame, raw_object, record};
+pub use headers::{second_own, wrong_pair};
+pub use logs::{an_object, any_log, damaged_log, damaged_log_at, foreign, long_log, object};
+pub use logs::{object_under, padded, position, sound_log, twice_damaged_log};
+pub use logs::{Damage, DAMAGES, LISTED};
+pub use records::{any_record, frame, raw_object, record, record_under};
 
 /// A tiny xorshift generator. Any seed will do, 0 too.
 #[derive(Clone, Debug)]

@@ -262,7 +262,8 @@ fn nothing(object: &[u8]) {
 
 #[test]
 fn bytes_that_are_no_such_object() {
-    for object in [bare(1, 48), bare(3, 36), bare(4, 60)] {
+    let objects = [bare(1, 48), bare(3, 36), bare(4, 60)];
+    for object in objects.into_iter().flat_map(both) {
         // A wrong unit must not come before what is wrong here.
         for unit in [2, 9] {
             let changed = |at: usize, value: u8| {
@@ -272,7 +273,7 @@ fn bytes_that_are_no_such_object() {
                 object
             };
             // Signature, header size and version, size, type.
-            for (at, value) in [(0, 0), (3, 0), (4, 16), (5, 1), (6, 2), (8, 40), (12, 62)] {
+            for (at, value) in [(0, 0), (3, 0), (4, 16), (5, 1), (6, 3), (8, 40), (12, 62)] {
                 nothing(&changed(at, value));
             }
             nothing(&changed(12, 5));
@@ -284,10 +285,13 @@ fn bytes_that_are_no_such_object() {
             nothing(&[&sound[..], &sound].concat());
         }
     }
-    let mut reserved = m2();
-    reserved[16] = 0;
-    reserved[35] = 1;
-    nothing(&reserved);
+    for at in [34, 35] {
+        for mut reserved in both(m2()) {
+            let at = moved(&reserved, at);
+            (reserved[16], reserved[at]) = (0, 1);
+            nothing(&reserved);
+        }
+    }
 }
 
 /// Sound objects of other types, and with a wrong unit.
@@ -297,9 +301,11 @@ fn objects_of_other_types() {
         for size in *sizes {
             let mut object = bare(*kind, *size);
             object.truncate(*size as usize);
-            nothing(&object);
-            object[16] = 0;
-            nothing(&object);
+            for mut object in both(object) {
+                nothing(&object);
+                object[16] = 0;
+                nothing(&object);
+            }
         }
     }
     nothing(&frame_object(64));

@@ -28,7 +28,7 @@ fn m2_overload() {
     let expected = CanOverload {
         head: Head {
             unit: 2,
-            client_index: 0,
+            own: Own::First { client_index: 0 },
             version: 0,
             time: 1_000_000,
         },

@@ -2,6 +2,7 @@
 
 mod common;
 use mshelovat_reference::gen::{self, Rng};
+use mshelovat_reference::header::Header;
 use mshelovat_reference::object::{step, walk, Answer};
 use mshelovat_reference::slips::check;
 
@@ -27,17 +28,37 @@ fn sound_logs_are_sound() {
     assert!(walk(&log).is_ok() && log.len() >= 100_000);
 }
 
+/// Foreign objects too, and each type under each header about as often.
 #[test]
 fn sound_logs_hold_every_type() {
-    let log = gen::sound_log(&mut Rng(42), 500);
+    let log = gen::sound_log(&mut Rng(42), 3_000);
     let mut position = 0;
-    let mut kinds = Vec::new();
+    let mut objects = Vec::new();
     while let Answer::Object(object) = step(&log, position) {
-        kinds.push(object.kind);
+        objects.push((object.kind, Header::of(object.bytes(&log))));
         position = object.next;
     }
-    assert!(gen::LISTED.iter().all(|kind| kinds.contains(kind)));
-    assert!(kinds.iter().any(|kind| !gen::LISTED.contains(kind)));
+    for kind in gen::LISTED {
+        let [first, second] = Header::BOTH.map(|header| {
+            let same = objects.iter().filter(|object| **object == (kind, header));
+            same.count()
+        });
+        assert!(first > 60 && second > 60, "{kind}: {first} {second}");
+    }
+    assert!(objects.iter().any(|(kind, _)| !gen::LISTED.contains(kind)));
+}
+
+#[test]
+fn objects_under_a_header() {
+    let mut rng = Rng(49);
+    for turn in 0..440 {
+        let (kind, header) = (gen::LISTED[turn % 11], Header::BOTH[turn / 11 % 2]);
+        let object = gen::object_under(&mut rng, header, kind);
+        assert_eq!(Header::named(&object), Some(header));
+        assert_eq!(walk(&gen::padded(object)), Ok(1));
+        let pair = gen::wrong_pair(&mut rng);
+        assert_eq!(Header::named(&[&[0; 4], &pair[..]].concat()), None);
+    }
 }
 
 #[test]
@@ -107,7 +128,7 @@ fn positions_reach_everywhere() {
 
 /// A FlexRay object has every field that 2 to 9 look at, and padding.
 #[test]
-fn of_two_damages_the_smaller_number_shows() {
+fn two_damages_give_every_number() {
     let mut rng = Rng(46);
     let mut met = [0; 10];
     for _ in 0..2_000 {

@@ -1,31 +1,47 @@
-//! Records: offsets, read-write-read round trips, refused writes, rewrite.
+//! Records under both headers: offsets, read-write-read round trips, refused
+//! writes, rewrite.
 
 mod common;
 use common::*;
 use mshelovat_reference::gen::{self, Rng};
-use mshelovat_reference::header::header_length;
 use mshelovat_reference::layout::{row, Refusal};
-use mshelovat_reference::object::{foreign_view, walk};
+use mshelovat_reference::object::{foreign_view, frame_view, walk};
 use mshelovat_reference::records::*;
 
-/// Field after field: its value and its offset and width by the paper.
+fn number_at(object: &[u8], offset: usize, width: usize) -> u64 {
+    let mut bytes = [0; 8];
+    bytes[..width].copy_from_slice(&object[offset..offset + width]);
+    u64::from_le_bytes(bytes)
+}
+
+/// Field after field: its value, and its offset and width by the paper. Under
+/// the second header the fields behind byte 32 have moved.
 fn expect(object: &[u8], fields: &[(u64, usize, usize)]) {
     for (value, offset, width) in fields {
-        let mut bytes = [0; 8];
-        bytes[..*width].copy_from_slice(&object[*offset..offset + width]);
-        assert_eq!(*value, u64::from_le_bytes(bytes), "offset {offset}");
+        let at = moved(object, *offset);
+        assert_eq!(*value, number_at(object, at, *width), "offset {offset}");
     }
 }
 
-/// The header's fields.
+/// The header's fields, and which header it is.
 fn expect_head(object: &[u8], head: &Head) {
     let fields = [
         (u64::from(head.unit), 16, 4),
-        (u64::from(head.client_index), 20, 2),
         (u64::from(head.version), 22, 2),
         (head.time, 24, 8),
     ];
     expect(object, &fields);
+    match head.own {
+        Own::First { client_index } => {
+            assert_eq!(object[4..8], [32, 0, 1, 0]);
+            assert_eq!(u64::from(client_index), number_at(object, 20, 2));
+        }
+        Own::Second { status, original } => {
+            assert_eq!(object[4..8], [40, 0, 2, 0]);
+            assert_eq!(status, object[20]);
+            assert_eq!(original, number_at(object, 32, 8));
+        }
+    }
 }
 
 /// A sound object whose bytes from 20 on are all different from their
@@ -35,9 +51,8 @@ fn counted(kind: u32, size: u32) -> Vec<u8> {
     for (at, byte) in object.iter_mut().enumerate().take(size as usize).skip(20) {
         *byte = (at * 7 % 251) as u8;
     }
-    let body = header_length(&object);
     for at in row(kind).unwrap().reserved {
-        object[body + at] = 0;
+        object[32 + at] = 0;
     }
     match kind {
         50 => object[56..58].copy_from_slice(&[200, 0]),
@@ -51,6 +66,11 @@ fn counted(kind: u32, size: u32) -> Vec<u8> {
     object
 }
 
+/// Such an object under each header.
+fn counted_both(kind: u32, size: u32) -> [Vec<u8>; 2] {
+    both(counted(kind, size))
+}
+
 fn record_at<R>(answer: Read<R>) -> R {
     match answer {
         Read::Record { record, .. } => record,
@@ -60,153 +80,167 @@ fn record_at<R>(answer: Read<R>) -> R {
 
 #[test]
 fn offsets_of_can() {
-    let object = counted(1, 48);
-    let r = record_at(read_can_message(&object, 0));
-    expect_head(&object, &r.head);
-    let fields = [
-        (r.channel as u64, 32, 2),
-        (r.flags as u64, 34, 1),
-        (r.dlc as u64, 35, 1),
-    ];
-    expect(&object, &fields);
-    expect(&object, &[(r.id as u64, 36, 4)]);
-    assert_eq!(r.data, object[40..48]);
-    let object = counted(3, 36);
-    let r = record_at(read_can_overload(&object, 0));
-    expect_head(&object, &r.head);
-    expect(&object, &[(r.channel as u64, 32, 2)]);
-    let object = counted(4, 60);
-    let r = record_at(read_can_statistic(&object, 0));
-    expect_head(&object, &r.head);
-    let fields = [
-        (r.channel as u64, 32, 2),
-        (r.bus_load as u64, 34, 2),
-        (r.standard_data as u64, 36, 4),
-        (r.extended_data as u64, 40, 4),
-        (r.standard_remote as u64, 44, 4),
-        (r.extended_remote as u64, 48, 4),
-        (r.error as u64, 52, 4),
-        (r.overload as u64, 56, 4),
-    ];
-    expect(&object, &fields);
+    for object in counted_both(1, 48) {
+        let r = record_at(read_can_message(&object, 0));
+        expect_head(&object, &r.head);
+        let fields = [
+            (r.channel as u64, 32, 2),
+            (r.flags as u64, 34, 1),
+            (r.dlc as u64, 35, 1),
+            (r.id as u64, 36, 4),
+            (u64::from_le_bytes(r.data), 40, 8),
+        ];
+        expect(&object, &fields);
+    }
+    for object in counted_both(3, 36) {
+        let r = record_at(read_can_overload(&object, 0));
+        expect_head(&object, &r.head);
+        expect(&object, &[(r.channel as u64, 32, 2)]);
+    }
+    for object in counted_both(4, 60) {
+        let r = record_at(read_can_statistic(&object, 0));
+        expect_head(&object, &r.head);
+        let fields = [
+            (r.channel as u64, 32, 2),
+            (r.bus_load as u64, 34, 2),
+            (r.standard_data as u64, 36, 4),
+            (r.extended_data as u64, 40, 4),
+            (r.standard_remote as u64, 44, 4),
+            (r.extended_remote as u64, 48, 4),
+            (r.error as u64, 52, 4),
+            (r.overload as u64, 56, 4),
+        ];
+        expect(&object, &fields);
+    }
 }
 
 #[test]
 fn offsets_of_flexray() {
-    let object = counted(50, 330);
-    let r = record_at(read_flexray_receive(&object, 0));
-    expect_head(&object, &r.head);
-    let fields = [
-        (r.channel as u64, 32, 2),
-        (r.version as u64, 34, 2),
-        (r.mask as u64, 36, 2),
-        (r.direction as u64, 38, 1),
-        (r.client as u64, 40, 4),
-        (r.cluster as u64, 44, 4),
-        (r.frame_id as u64, 48, 2),
-        (r.crc_a as u64, 50, 2),
-        (r.crc_b as u64, 52, 2),
-        (r.byte_count as u64, 54, 2),
-        (r.data_count as u64, 56, 2),
-        (r.cycle as u64, 58, 1),
-        (r.tag as u64, 60, 4),
-        (r.state as u64, 64, 4),
-        (r.flags as u64, 68, 4),
-    ];
-    expect(&object, &fields);
-    assert_eq!(r.data, object[76..330]);
+    for object in counted_both(50, 330) {
+        let r = record_at(read_flexray_receive(&object, 0));
+        expect_head(&object, &r.head);
+        let fields = [
+            (r.channel as u64, 32, 2),
+            (r.version as u64, 34, 2),
+            (r.mask as u64, 36, 2),
+            (r.direction as u64, 38, 1),
+            (r.client as u64, 40, 4),
+            (r.cluster as u64, 44, 4),
+            (r.frame_id as u64, 48, 2),
+            (r.crc_a as u64, 50, 2),
+            (r.crc_b as u64, 52, 2),
+            (r.byte_count as u64, 54, 2),
+            (r.data_count as u64, 56, 2),
+            (r.cycle as u64, 58, 1),
+            (r.tag as u64, 60, 4),
+            (r.state as u64, 64, 4),
+            (r.flags as u64, 68, 4),
+        ];
+        expect(&object, &fields);
+        assert_eq!(r.data, object[moved(&object, 76)..moved(&object, 330)]);
+    }
 }
 
 #[test]
 fn offsets_of_lin_message() {
-    let object = counted(57, 164);
-    let r = record_at(read_lin_message(&object, 0));
-    expect_head(&object, &r.head);
-    let fields = [
-        (r.bus.start, 32, 8),
-        (r.bus.baud_rate as u64, 40, 4),
-        (r.bus.channel as u64, 44, 2),
-        (r.break_length, 48, 8),
-        (r.delimiter_length, 56, 8),
-        (r.supplier as u64, 64, 2),
-        (r.message as u64, 66, 2),
-        (r.nad as u64, 68, 1),
-        (r.id as u64, 69, 1),
-        (r.dlc as u64, 70, 1),
-        (r.checksum_model as u64, 71, 1),
-        (r.times[0], 72, 8),
-        (r.times[8], 136, 8),
-        (r.checksum as u64, 152, 2),
-        (r.direction as u64, 154, 1),
-        (r.simulated as u64, 155, 1),
-        (r.event_triggered as u64, 156, 1),
-        (r.index as u64, 157, 1),
-        (r.associated_id as u64, 158, 1),
-        (r.machine as u64, 159, 1),
-        (r.state as u64, 160, 1),
-    ];
-    expect(&object, &fields);
-    assert_eq!(r.data, object[144..152]);
-    assert_eq!(r.tail, LinTail::Nothing);
+    for object in counted_both(57, 164) {
+        let r = record_at(read_lin_message(&object, 0));
+        expect_head(&object, &r.head);
+        let fields = [
+            (r.bus.start, 32, 8),
+            (r.bus.baud_rate as u64, 40, 4),
+            (r.bus.channel as u64, 44, 2),
+            (r.break_length, 48, 8),
+            (r.delimiter_length, 56, 8),
+            (r.supplier as u64, 64, 2),
+            (r.message as u64, 66, 2),
+            (r.nad as u64, 68, 1),
+            (r.id as u64, 69, 1),
+            (r.dlc as u64, 70, 1),
+            (r.checksum_model as u64, 71, 1),
+            (r.times[0], 72, 8),
+            (r.times[8], 136, 8),
+            (r.checksum as u64, 152, 2),
+            (r.direction as u64, 154, 1),
+            (r.simulated as u64, 155, 1),
+            (r.event_triggered as u64, 156, 1),
+            (r.index as u64, 157, 1),
+            (r.associated_id as u64, 158, 1),
+            (r.machine as u64, 159, 1),
+            (r.state as u64, 160, 1),
+        ];
+        expect(&object, &fields);
+        expect(&object, &[(u64::from_le_bytes(r.data), 144, 8)]);
+        assert_eq!(r.tail, LinTail::Nothing);
+    }
 }
 
 #[test]
-fn offsets_of_lin_tails_and_wake_up() {
-    let object = counted(57, 168);
-    let LinTail::Response { response_rate } = record_at(read_lin_message(&object, 0)).tail else {
-        panic!("a response rate");
-    };
-    expect(&object, &[(response_rate as u64, 164, 4)]);
-    let object = counted(57, 184);
-    let LinTail::Rates {
-        response_rate,
-        exact_header_rate,
-        stop_bit_offset,
-        response_stop_bit_offset,
-    } = record_at(read_lin_message(&object, 0)).tail
-    else {
-        panic!("rates");
-    };
-    let fields = [
-        (response_rate as u64, 164, 4),
-        (exact_header_rate, 168, 8),
-        (stop_bit_offset as u64, 176, 4),
-        (response_stop_bit_offset as u64, 180, 4),
-    ];
-    expect(&object, &fields);
-    let object = counted(62, 52);
-    let r = record_at(read_lin_wake_up(&object, 0));
-    expect_head(&object, &r.head);
-    let fields = [
-        (r.bus.start, 32, 8),
-        (r.bus.baud_rate as u64, 40, 4),
-        (r.bus.channel as u64, 44, 2),
-        (r.length_info as u64, 48, 1),
-        (r.signal as u64, 49, 1),
-        (r.external as u64, 50, 1),
-    ];
-    expect(&object, &fields);
+fn offsets_of_lin_tails() {
+    for object in counted_both(57, 168) {
+        let tail = record_at(read_lin_message(&object, 0)).tail;
+        let LinTail::Response { response_rate } = tail else {
+            panic!("a response rate");
+        };
+        expect(&object, &[(response_rate as u64, 164, 4)]);
+    }
+    for object in counted_both(57, 184) {
+        let LinTail::Rates {
+            response_rate,
+            exact_header_rate,
+            stop_bit_offset,
+            response_stop_bit_offset,
+        } = record_at(read_lin_message(&object, 0)).tail
+        else {
+            panic!("rates");
+        };
+        let fields = [
+            (response_rate as u64, 164, 4),
+            (exact_header_rate, 168, 8),
+            (stop_bit_offset as u64, 176, 4),
+            (response_stop_bit_offset as u64, 180, 4),
+        ];
+        expect(&object, &fields);
+    }
+}
+
+#[test]
+fn offsets_of_lin_wake_up() {
+    for object in counted_both(62, 52) {
+        let r = record_at(read_lin_wake_up(&object, 0));
+        expect_head(&object, &r.head);
+        let fields = [
+            (r.bus.start, 32, 8),
+            (r.bus.baud_rate as u64, 40, 4),
+            (r.bus.channel as u64, 44, 2),
+            (r.length_info as u64, 48, 1),
+            (r.signal as u64, 49, 1),
+            (r.external as u64, 50, 1),
+        ];
+        expect(&object, &fields);
+    }
 }
 
 #[test]
 fn offsets_of_ethernet_status() {
-    let object = counted(103, 48);
-    let r = record_at(read_ethernet_status(&object, 0));
-    expect_head(&object, &r.head);
-    let fields = [
-        (r.channel as u64, 32, 2),
-        (r.flags as u64, 34, 2),
-        (r.link_status as u64, 36, 1),
-        (r.ethernet_phy as u64, 37, 1),
-        (r.duplex as u64, 38, 1),
-        (r.mdi as u64, 39, 1),
-        (r.connector as u64, 40, 1),
-        (r.clock_mode as u64, 41, 1),
-        (r.pairs as u64, 42, 1),
-        (r.hardware_channel as u64, 43, 1),
-        (r.bit_rate as u64, 44, 4),
-    ];
-    expect(&object, &fields);
+    for object in counted_both(103, 48) {
+        let r = record_at(read_ethernet_status(&object, 0));
+        expect_head(&object, &r.head);
+        let fields = [
+            (r.channel as u64, 32, 2),
+            (r.flags as u64, 34, 2),
+            (r.link_status as u64, 36, 1),
+            (r.ethernet_phy as u64, 37, 1),
+            (r.duplex as u64, 38, 1),
+            (r.mdi as u64, 39, 1),
+            (r.connector as u64, 40, 1),
+            (r.clock_mode as u64, 41, 1),
+            (r.pairs as u64, 42, 1),
+            (r.hardware_channel as u64, 43, 1),
+            (r.bit_rate as u64, 44, 4),
+        ];
+        expect(&object, &fields);
+    }
 }
 
 fn expect_frame(object: &[u8], r: &EthernetFrame) {
@@ -223,24 +257,30 @@ fn expect_frame(object: &[u8], r: &EthernetFrame) {
         (r.handle as u64, 56, 4),
     ];
     expect(object, &fields);
-    assert_eq!(r.frame, &object[64..64 + r.frame.len()]);
+    let start = moved(object, 64);
+    assert_eq!(r.frame, &object[start..start + r.frame.len()]);
+    assert_eq!(frame_view(object, 0), r.frame);
 }
 
 #[test]
 fn offsets_of_ethernet_frames() {
     for size in [64, 65, 125, 1_676] {
-        let object = counted(120, size);
-        expect_frame(&object, &record_at(read_ethernet_frame(&object, 0)));
-        let object = counted(121, size);
-        expect_frame(&object, &record_at(read_forwarded_frame(&object, 0)));
-        let object = counted(122, size);
-        let r = record_at(read_ethernet_error(&object, 0));
-        expect_frame(&object, &r.event);
-        expect(&object, &[(r.error_code as u64, 60, 4)]);
-        let object = counted(123, size);
-        let r = record_at(read_forwarded_error(&object, 0));
-        expect_frame(&object, &r.event);
-        expect(&object, &[(r.error_code as u64, 60, 4)]);
+        for object in counted_both(120, size) {
+            expect_frame(&object, &record_at(read_ethernet_frame(&object, 0)));
+        }
+        for object in counted_both(121, size) {
+            expect_frame(&object, &record_at(read_forwarded_frame(&object, 0)));
+        }
+        for object in counted_both(122, size) {
+            let r = record_at(read_ethernet_error(&object, 0));
+            expect_frame(&object, &r.event);
+            expect(&object, &[(r.error_code as u64, 60, 4)]);
+        }
+        for object in counted_both(123, size) {
+            let r = record_at(read_forwarded_error(&object, 0));
+            expect_frame(&object, &r.event);
+            expect(&object, &[(r.error_code as u64, 60, 4)]);
+        }
     }
 }
 
@@ -255,9 +295,8 @@ fn every_free_byte_is_kept() {
         (123, &[64, 65, 1_676]),
     ];
     for (kind, sizes) in SIZES.into_iter().chain(frames) {
-        for size in sizes {
-            let log = counted(kind, *size);
-            assert_eq!(walk(&log), Ok(1), "{kind} {size}");
+        for log in sizes.iter().flat_map(|size| counted_both(kind, *size)) {
+            assert_eq!(walk(&log), Ok(1), "{kind} {}", log.len());
             let mut out = vec![0xEE; log.len() + 3];
             assert_eq!(rewrite(&log, &mut out), Ok(log.len()));
             assert_eq!(out[..log.len()], log[..]);
@@ -270,12 +309,13 @@ fn every_free_byte_is_kept() {
 fn write_read_round_trips() {
     let mut rng = Rng(1);
     for turn in 0..11_000 {
-        let kind = gen::LISTED[turn % 11];
+        let (kind, header) = (gen::LISTED[turn % 11], Header::BOTH[turn / 11 % 2]);
         let frame = gen::frame(&mut rng);
-        let record = gen::record(&mut rng, kind, &frame);
+        let record = gen::record_under(&mut rng, header, kind, &frame);
         let mut out = vec![0xEE; 2_048];
         let used = write_any(&record, &mut out).expect("valid and room enough");
         assert_eq!(walk(&out[..used]), Ok(1));
+        assert_eq!(out[4..8], header.pair());
         assert!(out[used..].iter().all(|b| *b == 0xEE));
         let answer = read_any(&out, 0);
         assert_eq!(answer, Read::Record { record, next: used });

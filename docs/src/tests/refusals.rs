@@ -1,9 +1,9 @@
-//! Every refusal number of the reader and the writer, the order in which they
-//! are tried, positions and views.
+//! Every refusal number of the reader and the writer under both headers, the
+//! order in which they are tried, positions and views. What W-202 alone asks is
+//! in headers.rs.
 
 mod common;
 use common::*;
-use mshelovat_reference::header::{body, header_length};
 use mshelovat_reference::layout::{row, TYPE_LIST};
 use mshelovat_reference::object::{foreign_view, frame_view, rest, step, walk, Answer};
 use mshelovat_reference::records::*;
@@ -37,15 +37,6 @@ fn signature_every_byte() {
 }
 
 #[test]
-fn any_bytes_have_a_header_length() {
-    for bytes in [vec![], vec![0xFF; 7], foreign(16, 16), m2()] {
-        assert_eq!(header_length(&bytes), 32);
-    }
-    assert_eq!(Head::default().length(), 32);
-    assert_eq!(body(&m2()), [1, 0, 0, 0]);
-}
-
-#[test]
 fn every_type_finds_its_row() {
     for listed in &TYPE_LIST {
         assert_eq!(row(listed.kind).map(|found| found.kind), Some(listed.kind));
@@ -64,16 +55,16 @@ fn size_of_every_type() {
             } else {
                 refused(3, 0)
             };
-            assert_eq!(walk(&long_enough(kind, size)), expected, "{kind} {size}");
+            for log in both(long_enough(kind, size)) {
+                assert_eq!(walk(&log), expected, "{kind} {size}");
+            }
         }
     }
     for kind in 120..=123 {
         for size in (0..64).chain(1_677..1_700) {
-            assert_eq!(
-                walk(&long_enough(kind, size)),
-                refused(3, 0),
-                "{kind} {size}"
-            );
+            for log in both(long_enough(kind, size)) {
+                assert_eq!(walk(&log), refused(3, 0), "{kind} {size}");
+            }
         }
     }
     for size in 0..16 {
@@ -81,7 +72,7 @@ fn size_of_every_type() {
     }
 }
 
-/// A bare object with at least 16 bytes, whatever its size says.
+/// A bare object with at least 32 bytes, whatever its size says.
 fn long_enough(kind: u32, size: u32) -> Vec<u8> {
     let mut object = bare(kind, size);
     if size < 32 {
@@ -91,44 +82,54 @@ fn long_enough(kind: u32, size: u32) -> Vec<u8> {
     object
 }
 
+/// M2 with this header size and version.
+fn with_pair(object: &[u8], size: u16, version: u16) -> Vec<u8> {
+    let mut object = object.to_vec();
+    object[4..6].copy_from_slice(&size.to_le_bytes());
+    object[6..8].copy_from_slice(&version.to_le_bytes());
+    object
+}
+
 #[test]
 fn header_of_listed_and_foreign() {
-    for header_size in 0..=40u16 {
-        let mut log = m2();
-        log[4..6].copy_from_slice(&header_size.to_le_bytes());
-        let expected = if header_size == 32 {
-            Ok(1)
-        } else {
-            refused(4, 0)
-        };
-        assert_eq!(walk(&log), expected);
-        let expected = if (16..=24).contains(&header_size) {
-            Ok(1)
-        } else {
-            refused(4, 0)
-        };
-        assert_eq!(walk(&foreign(24, header_size)), expected);
-    }
-    for version in [0u16, 2, 257, 0x0100] {
-        let mut log = m2();
-        log[6..8].copy_from_slice(&version.to_le_bytes());
-        assert_eq!(walk(&log), refused(4, 0));
-        let mut log = foreign(16, 16);
-        log[6..8].copy_from_slice(&version.to_le_bytes());
-        assert_eq!(walk(&log), Ok(1));
+    for size in 0..=50 {
+        for version in [0, 1, 2, 3, 0x0100, 0x0101, 0x0102, u16::MAX] {
+            // Either pair, but for the other one's size.
+            let expected = |own, other| match (size, version) {
+                pair if pair == own => Ok(1),
+                pair if pair == other => refused(3, 0),
+                _ => refused(4, 0),
+            };
+            let [first, second] = both(m2());
+            let answer = walk(&with_pair(&first, size, version));
+            assert_eq!(answer, expected((32, 1), (40, 2)), "{size} {version}");
+            let answer = walk(&with_pair(&second, size, version));
+            assert_eq!(answer, expected((40, 2), (32, 1)), "{size} {version}");
+            let expected = if (16..=44).contains(&size) {
+                Ok(1)
+            } else {
+                refused(4, 0)
+            };
+            assert_eq!(walk(&with_pair(&foreign(44, 0), size, version)), expected);
+        }
     }
 }
 
 #[test]
 fn unit_and_kept_header_fields() {
-    for unit in [0u32, 3, 256, 257, 0x0100_0000, u32::MAX] {
-        let mut log = m2();
-        log[16..20].copy_from_slice(&unit.to_le_bytes());
-        assert_eq!(walk(&log), refused(7, 0));
+    for mut log in both(m2()) {
+        for unit in [0u32, 3, 256, 257, 0x0100_0000, u32::MAX] {
+            log[16..20].copy_from_slice(&unit.to_le_bytes());
+            assert_eq!(walk(&log), refused(7, 0));
+        }
     }
-    let mut log = m2();
-    log[20..32].fill(0xFF);
-    assert_eq!(walk(&log), Ok(1));
+    let [mut first, mut second] = both(m2());
+    first[20..32].fill(0xFF);
+    assert_eq!(walk(&first), Ok(1));
+    second[20..40].fill(0xFF);
+    assert_eq!(walk(&second), refused(8, 0));
+    second[21] = 0;
+    assert_eq!(walk(&second), Ok(1));
 }
 
 #[test]
@@ -146,8 +147,6 @@ fn reserved_bytes_and_no_others() {
     ];
     for (kind, size, reserved) in reserved {
         for at in 32..size as usize {
-            let mut log = bare(kind, size);
-            log[at] = 1;
             // Data count above byte count: content, not reserved.
             let content = kind == 50 && (at == 56 || at == 57);
             let expected = match (reserved.contains(&at), content) {
@@ -155,7 +154,11 @@ fn reserved_bytes_and_no_others() {
                 (false, true) => refused(9, 0),
                 (false, false) => Ok(1),
             };
-            assert_eq!(walk(&log), expected, "{kind} {size} {at}");
+            for mut log in both(bare(kind, size)) {
+                let place = moved(&log, at);
+                log[place] = 1;
+                assert_eq!(walk(&log), expected, "{kind} {size} {at}");
+            }
         }
     }
 }
@@ -164,15 +167,17 @@ fn reserved_bytes_and_no_others() {
 fn reserved_of_frames() {
     for kind in 120..=123 {
         for at in 32..80 {
-            let mut log = frame_object(80);
-            log[12] = kind;
-            log[at] ^= 1;
             let expected = match at {
                 32 | 33 | 54 | 55 => refused(9, 0),
                 60..=63 if kind < 122 => refused(8, 0),
                 _ => Ok(1),
             };
-            assert_eq!(walk(&log), expected, "{kind} {at}");
+            for mut log in both(frame_object(80)) {
+                log[12] = kind;
+                let place = moved(&log, at);
+                log[place] ^= 1;
+                assert_eq!(walk(&log), expected, "{kind} {at}");
+            }
         }
     }
 }
@@ -189,9 +194,11 @@ fn exact_rate() {
     ];
     let rates = sound.map(|r| (r, Ok(1))).into_iter();
     for (rate, expected) in rates.chain(broken.map(|r| (r, refused(9, 0)))) {
-        let mut log = bare(57, 184);
-        log[168..176].copy_from_slice(&rate.to_le_bytes());
-        assert_eq!(walk(&log), expected, "{rate:016x}");
+        for mut log in both(bare(57, 184)) {
+            let at = moved(&log, 168);
+            log[at..at + 8].copy_from_slice(&rate.to_le_bytes());
+            assert_eq!(walk(&log), expected, "{rate:016x}");
+        }
         let value = f64::from_bits(rate);
         assert_eq!(
             expected.is_ok(),
@@ -200,32 +207,45 @@ fn exact_rate() {
     }
 }
 
-/// Damages a FlexRay receive of 332 bytes so that this number would be given.
+/// Damages a FlexRay receive so that this number would be given.
 fn harm(log: &mut Vec<u8>, number: u8) {
+    let end = moved(log, 330);
     match number {
         2 => log[3] = 0,
-        3 => log[8..12].copy_from_slice(&331u32.to_le_bytes()),
-        4 => log[6] = 2,
-        5 => log.truncate(331),
-        6 => log[330] = 1,
+        3 => log[8] += 1,
+        4 => log[7] = 1,
+        5 => log.truncate(end + 1),
+        6 => log[end] = 1,
         7 => log[16] = 0,
+        8 if log[4] == 40 => log[21] = 1,
         8 => log[39] = 1,
-        _ => log[56] = 1,
+        _ => {
+            let data_count = moved(log, 56);
+            log[data_count] = 1;
+        }
     }
 }
 
+/// The order of the tests, for the eleven types.
+const ORDER: [u8; 8] = [2, 4, 3, 5, 6, 7, 8, 9];
+
 #[test]
-fn the_smallest_number_wins() {
+fn the_first_that_is_tried_wins() {
     for set in 0u32..256 {
-        let numbers: Vec<u8> = (2..=9).filter(|n| set >> (n - 2) & 1 == 1).collect();
-        let mut object = flexray(0, 0);
-        numbers.iter().rev().for_each(|n| harm(&mut object, *n));
-        let log = joined(&[m2(), object]);
+        let numbers = ORDER.iter().enumerate();
+        let numbers: Vec<u8> = numbers
+            .filter(|(at, _)| set >> at & 1 == 1)
+            .map(|(_, number)| *number)
+            .collect();
         let expected = match numbers.first() {
             Some(number) => refused(*number, 36),
             None => Ok(2),
         };
-        assert_eq!(walk(&log), expected, "{numbers:?}");
+        for mut object in both(flexray(0, 0)) {
+            numbers.iter().rev().for_each(|n| harm(&mut object, *n));
+            let log = joined(&[m2(), object]);
+            assert_eq!(walk(&log), expected, "{numbers:?}");
+        }
     }
 }
 

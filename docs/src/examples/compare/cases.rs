@@ -1,8 +1,10 @@
-//! The cases: by a sweep over every byte, length and room of one object of each type and of a bundle, and at random.
+//! The cases: by a sweep over the two headers and over the bytes, lengths and rooms of one object of each type under
+//! each header and of a bundle, and at random.
+use super::headers;
 use mshelovat_reference::gen::{self, Rng, DAMAGES, FAULTS, LISTED};
-use mshelovat_reference::header::header_length;
+use mshelovat_reference::header::Header;
 use mshelovat_reference::layout::{occupied, put, u32_at};
-use mshelovat_reference::object::{step, Answer};
+use mshelovat_reference::object::{has_frame, step, Answer};
 
 /// The most bytes of a log, and of a bundle.
 pub const LIMIT: usize = 65_536;
@@ -50,7 +52,7 @@ impl Case {
         }
     }
 
-    fn reads(log: Vec<u8>, number: u64, wanted: u32) -> Case {
+    pub fn reads(log: Vec<u8>, number: u64, wanted: u32) -> Case {
         Case {
             question: 5,
             number,
@@ -59,7 +61,7 @@ impl Case {
         }
     }
 
-    fn writes(question: u8, log: Vec<u8>, room: usize) -> Case {
+    pub fn writes(question: u8, log: Vec<u8>, room: usize) -> Case {
         Case {
             question,
             number: room.min(LIMIT) as u64,
@@ -87,7 +89,7 @@ impl Cases {
         }
     }
 
-    pub fn next(&mut self) -> Case {
+    pub fn next_case(&mut self) -> Case {
         let number = self.number;
         self.number += 1;
         let swept = if number % 2 == 1 {
@@ -97,34 +99,40 @@ impl Cases {
         };
         swept.unwrap_or_else(|| at_random(&mut self.rng, number / 2))
     }
+
+    /// How many cases of the sweep were not asked for yet.
+    pub fn left(&self) -> usize {
+        self.sweep.len()
+    }
 }
 
-/// A sound object of each type and size: LIN in its three sizes, frames with padding, and a foreign one.
-fn one_of_each(rng: &mut Rng) -> Vec<Vec<u8>> {
+/// A sound object of each type and size under a header: LIN in its three sizes, frames with padding.
+fn one_of_each(rng: &mut Rng, header: Header) -> Vec<Vec<u8>> {
     let mut objects = Vec::new();
-    for kind in LISTED.iter().chain(&[57, 57, 9_999]) {
-        let object = another(rng, *kind, &objects);
+    for kind in LISTED.iter().chain(&[57, 57]) {
+        let object = another(rng, header, *kind, &objects);
         objects.push(object);
     }
     objects
 }
 
-/// A small sound object of a type, no longer than a FlexRay receive's, of another size than those that are there.
-fn another(rng: &mut Rng, kind: u32, objects: &[Vec<u8>]) -> Vec<u8> {
+/// A sound object of a type, of another size than those that are there; a frame is short and has padding behind it.
+fn another(rng: &mut Rng, header: Header, kind: u32, objects: &[Vec<u8>]) -> Vec<u8> {
     loop {
-        let object = gen::object(rng, kind);
-        let small =
-            object.len() <= header_length(&object) + 298 && (kind < 120 || object.len() % 4 == 1);
+        let object = gen::object_under(rng, header, kind);
+        let small = object.len() <= header.length() + 80 && object.len() % 4 == 1;
         let there = |o: &Vec<u8>| u32_at(o, 12) == kind && o.len() == object.len();
-        if small && !objects.iter().any(there) {
+        if (small || !has_frame(kind)) && !objects.iter().any(there) {
             return object;
         }
     }
 }
 
 fn sweep(rng: &mut Rng) -> Vec<Case> {
-    let mut cases = Vec::new();
-    for object in one_of_each(rng) {
+    let mut cases = headers::sweep(rng);
+    let mut objects = Header::BOTH.map(|header| one_of_each(rng, header)).concat();
+    objects.push(gen::foreign(rng));
+    for object in objects {
         sweep_reads(rng, &object, &mut cases);
         sweep_rooms(&object, &mut cases);
         sweep_writes(rng, &object, &mut cases);
@@ -133,28 +141,43 @@ fn sweep(rng: &mut Rng) -> Vec<Case> {
     cases
 }
 
-/// An object and its padding, read: cut off at every length, and each byte changed. A foreign one is asked for as one
-/// of the eleven.
+/// The numbers below a length, but those that are neither among the first nor among the last few.
+fn ends(length: usize, first: usize) -> impl Iterator<Item = usize> {
+    (0..length).filter(move |at| *at < first || at + 8 > length)
+}
+
+/// The bytes to change in an object: all, but those far within an array of data.
+fn places(object: &[u8]) -> impl Iterator<Item = usize> {
+    ends(object.len(), 192)
+}
+
+/// An object and its padding, read: cut off around its header and its end, and each byte changed. A foreign one is
+/// asked for as one of the eleven.
 fn sweep_reads(rng: &mut Rng, object: &[u8], cases: &mut Vec<Case>) {
     let kind = u32_at(object, 12);
     let wanted = if LISTED.contains(&kind) { kind } else { 1 };
     let log = gen::padded(object.to_vec());
-    for at in 0..log.len() {
+    for at in ends(log.len(), 48) {
         cases.push(Case::reads(log[..at].to_vec(), 0, wanted));
+    }
+    for at in places(&log) {
         cases.push(Case::reads(changed(rng, &log, at), 0, wanted));
     }
 }
 
-/// An object, written: to every room up to a few bytes more than enough.
+/// An object, written: to no room and little, and to every room from a few bytes too little to a few more than enough.
 fn sweep_rooms(object: &[u8], cases: &mut Vec<Case>) {
-    for room in 0..object.len().next_multiple_of(4) + 4 {
+    for room in ends(object.len().next_multiple_of(4) + 4, 2) {
         cases.push(Case::writes(6, object.to_vec(), room));
     }
 }
 
-/// An object, written: each byte changed but the type's.
+/// An object, written: each byte changed but the type's, and in a LIN message the pair's, since its length would then
+/// be none that a LIN message has.
 fn sweep_writes(rng: &mut Rng, object: &[u8], cases: &mut Vec<Case>) {
-    for at in (0..object.len()).filter(|at| !(12..16).contains(at)) {
+    let kind = u32_at(object, 12);
+    let kept = |at: usize| (12..16).contains(&at) || kind == 57 && (4..8).contains(&at);
+    for at in places(object).filter(|at| !kept(*at)) {
         let room = object.len().next_multiple_of(4);
         cases.push(Case::writes(6, changed(rng, object, at), room));
     }

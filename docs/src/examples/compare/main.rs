@@ -10,33 +10,41 @@
 //! the room; 5 the record at the position, of the type that stands in place of the bundle (u32); 6 the bytes in place
 //! of the log written to the room as the object that they are; 7 the same bytes offered as a foreign object.
 //!
+//! To 6, bytes of one of the eleven types are the record that stands in them, with no test: under the second header
+//! exactly where they say (40, 2), else under the first; of more bytes than the type has there only the front counts,
+//! all of them for a frame; too few give the record of zeros, which 7 refuses. A LIN message always has a length of its
+//! type there, since that says how it ends. Fewer than 16 bytes are offered as a foreign object.
+//!
 //! A reply: a word and four numbers, each a u64. The words: 1 an object (start, size, type, next position); 2 done; 3
 //! refused (number, place); 4 a count; 5 the bytes used; 6 a record (where its numbers end, the length of its frame); 7
 //! an object of another type. To 1 and 5 the last number is the next position. Behind the reply, to 4, 6 and 7: the
 //! bytes of the room; to 5, for a record: each of its fields as a u64, counted from byte 40, then the bytes of its
-//! frame. All little-endian. Both sides write to one page that is never cleared, so that a byte that a call may not
-//! change shows.
+//! frame. The first six are the header's: unit; which header it was, 1 or 2; client index, or the second header's time
+//! stamp status; object version; time stamp; original time stamp, 0 under the first header. All little-endian. Both
+//! sides write to one page that is never cleared, so that a byte that a call may not change shows.
 //!
-//! The judge also fails where one of the refusals 1 to 11 and 20 to 27 never came, or where one of the eleven types was
-//! never read or never written: then COUNT is too small or the cases are. Refusal 28 asks for a log above 4 GiB and
-//! stays out.
-mod cases;
+//! The judge also fails where something never came that must come: then COUNT is too small or the cases are. These are
+//! the refusals 1 to 11 and 20 to 27 (28 asks for a log above 4 GiB and stays out); each of the eleven types, read and
+//! written under each header; and what shows in which order the headers are tested: 4 where the size is wrong under
+//! both headers, 3 where it is one of the other header's, 8 for byte 21 alone and with a wrong content, 7 with byte 21
+//! set too, and 9 where a frame's length under the second header is the size minus 64.
+pub mod cases;
+mod coverage;
+mod headers;
 mod numbers;
-mod replies;
+pub mod replies;
 
 use cases::{Case, Cases, LIMIT};
-use mshelovat_reference::gen::LISTED;
-use mshelovat_reference::layout::u32_at;
+use coverage::Seen;
 use replies::{tell, Break, Reply, Told};
-use std::collections::BTreeMap;
 use std::io::{self, BufReader, BufWriter, Read, Write};
 use std::process::exit;
 
-fn make(seed: u64, count: usize) -> io::Result<()> {
+/// Writes the cases.
+pub fn make(seed: u64, count: usize, out: &mut impl Write) -> io::Result<()> {
     let mut cases = Cases::new(seed);
-    let mut out = BufWriter::new(io::stdout().lock());
     for _ in 0..count {
-        out.write_all(&cases.next().bytes())?;
+        out.write_all(&cases.next_case().bytes())?;
     }
     out.flush()
 }
@@ -66,61 +74,17 @@ fn show(number: usize, case: &Case, ours: &Told, theirs: &Option<Told>) {
     }
 }
 
-/// How often each refusal came, and each type was read and written; what else came, by question.
-#[derive(Default)]
-struct Seen(BTreeMap<&'static str, BTreeMap<u64, usize>>);
-
-impl Seen {
-    fn note(&mut self, case: &Case, reply: &Reply) {
-        let (what, number) = match (case.question, reply[0]) {
-            (_, 3) => ("refused", reply[1]),
-            (5, 6) => ("read", case.wanted().into()),
-            (6, 5) => ("written", u32_at(&case.log, 12).into()),
-            (question, _) => ("not refused, by question", question.into()),
-        };
-        *self.0.entry(what).or_default().entry(number).or_default() += 1;
-    }
-
-    fn print(&self) {
-        for (what, times) in &self.0 {
-            println!("{what}: {times:?}");
-        }
-    }
-
-    /// Prints and counts those of the numbers that never came.
-    fn missing(&self, what: &str, numbers: &[u64]) -> usize {
-        let came = |number| {
-            let times = self.0.get(what);
-            times.is_some_and(|times| times.contains_key(number))
-        };
-        let never: Vec<_> = numbers.iter().filter(|number| !came(number)).collect();
-        if !never.is_empty() {
-            println!("never {what}: {never:?}");
-        }
-        never.len()
-    }
-
-    /// How many never came of what must come.
-    fn all_missing(&self) -> usize {
-        let types = LISTED.map(u64::from);
-        let refusals: Vec<u64> = (1..=11).chain(20..=27).collect();
-        self.missing("refused", &refusals)
-            + self.missing("read", &types)
-            + self.missing("written", &types)
-    }
-}
-
-fn judge(seed: u64, count: usize, wrong: Break) -> bool {
+/// Compares the replies with this reader's own; are all the same, and did all come that must?
+pub fn judge(seed: u64, count: usize, wrong: Break, input: &mut impl Read) -> bool {
     let mut cases = Cases::new(seed);
-    let mut input = BufReader::new(io::stdin().lock());
     let (mut passed, mut failed) = (0, 0);
     let mut page = vec![0; LIMIT];
     let mut seen = Seen::default();
     for number in 0..count {
-        let case = cases.next();
+        let case = cases.next_case();
         let ours = tell(&case, &mut page, wrong);
-        seen.note(&case, &ours.reply);
-        let theirs = read_told(&mut input, &case);
+        seen.note(&case, &ours);
+        let theirs = read_told(input, &case);
         if theirs.as_ref() == Some(&ours) {
             passed += 1;
         } else {
@@ -160,8 +124,8 @@ fn main() {
         usage();
     };
     let good = match what {
-        "make" => make(seed, count).is_ok(),
-        "judge" => judge(seed, count, wrong),
+        "make" => make(seed, count, &mut BufWriter::new(io::stdout().lock())).is_ok(),
+        "judge" => judge(seed, count, wrong, &mut BufReader::new(io::stdin().lock())),
         _ => usage(),
     };
     exit(if good { 0 } else { 1 });

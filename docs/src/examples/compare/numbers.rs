@@ -1,4 +1,5 @@
-//! A record as numbers, field by field in the order of document 01's table: what a read must find.
+//! A record as numbers: six of its header, then field by field in the order of document 01's table. What a read must
+//! find.
 use mshelovat_reference::records::*;
 
 /// The fields of a record as numbers, and the frame it was read with.
@@ -19,8 +20,14 @@ fn each(bytes: &[u8]) -> Vec<u64> {
     bytes.iter().map(|b| u64::from(*b)).collect()
 }
 
+/// Unit; which header, 1 or 2; what stands at byte 20: client index or time stamp status; object version; time stamp;
+/// original time stamp, 0 under the first header.
 fn head(head: &Head) -> Vec<u64> {
-    row![head.unit, head.client_index, head.version, head.time]
+    let (header, at_20, original) = match head.own {
+        Own::First { client_index } => (1u64, u64::from(client_index), 0),
+        Own::Second { status, original } => (2, u64::from(status), original),
+    };
+    row![head.unit, header, at_20, head.version, head.time, original]
 }
 
 impl Numbers for CanMessage {

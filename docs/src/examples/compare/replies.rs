@@ -1,6 +1,6 @@
 //! This reader's own answer to a case, and the faults that `--break` puts in.
-use crate::cases::Case;
-use crate::numbers::Numbers;
+use super::cases::Case;
+use super::numbers::Numbers;
 use mshelovat_reference::layout::{kind, number, padding, u32_at, Refusal};
 use mshelovat_reference::object::{step, walk, Answer};
 use mshelovat_reference::records::*;
@@ -14,6 +14,15 @@ pub type Reply = [u64; 5];
 pub struct Told {
     pub reply: Reply,
     pub behind: Vec<u8>,
+}
+
+impl Told {
+    /// The reply as it is written.
+    pub fn bytes(&self) -> Vec<u8> {
+        let mut bytes: Vec<u8> = self.reply.iter().flat_map(|n| n.to_le_bytes()).collect();
+        bytes.extend(&self.behind);
+        bytes
+    }
 }
 
 /// One place in which this reader answers wrongly.
@@ -145,7 +154,7 @@ fn record_told<R: Numbers>(read: Read<R>, case: &Case, wrong: Break) -> Told {
         Read::Record { record, .. } => {
             let mut numbers = record.numbers();
             if wrong == Break::Offset && case.wanted() == kind::CAN_MESSAGE {
-                numbers[6] = numbers[5];
+                numbers[8] = numbers[7];
             }
             behind.extend(numbers.iter().flat_map(|n| n.to_le_bytes()));
             behind.extend(record.frame());

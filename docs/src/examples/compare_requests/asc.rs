@@ -1,9 +1,10 @@
 //! W-201: this crate's answers to questions 1 to 4, and what must come among them.
+use super::asc_cases::KINDS;
 use super::cases::Case;
 use super::replies::{refused, word, Break, Reply, Told};
 use mshelovat_reference::asc::{self, LineAt};
-use mshelovat_reference::header::header_length;
-use mshelovat_reference::layout::{kind, row, u32_at, Bodies, Refusal};
+use mshelovat_reference::header::{Header, STATUS_GAP};
+use mshelovat_reference::layout::{u32_at, Refusal};
 use mshelovat_reference::object::{step, Answer};
 use mshelovat_reference::records::{record_in, Record};
 
@@ -45,20 +46,8 @@ fn at_reply(case: &Case, room: &mut [u8]) -> Reply {
     }
 }
 
-/// The record of a type that these bytes are; of zeros where they are too few for header and body.
-pub fn taken(kind: u32, bytes: &[u8]) -> Record<'_> {
-    let Some(Bodies::OneOf(bodies)) = row(kind).map(|row| row.bodies) else {
-        panic!("type {kind} has no line");
-    };
-    let least = bodies.iter().min().expect("a body's length");
-    if bytes.len() < header_length(bytes) + least {
-        return record_in(kind, &[0; 128]);
-    }
-    record_in(kind, bytes)
-}
-
 fn record_line(case: &Case, room: &mut [u8], wrong: Break) -> Result<usize, Refusal> {
-    match taken(case.second_number(), &case.first) {
+    match record_in(case.second_number(), &case.first) {
         Record::CanMessage(mut r) if wrong == Break::Remote && r.flags & 0x80 != 0 => {
             r.flags &= 0x7F;
             let used = asc::message_line(&r, room)?;
@@ -113,16 +102,23 @@ fn any_fraction(text: &[u8]) -> Result<asc::Told, Refusal> {
 
 /// What must come.
 #[rustfmt::skip]
-pub const NEEDED: [&str; 33] = [
-    "1: line of type 1", "1: line of type 3", "1: line of type 4",
-    "1: 0 bytes, another type", "1: 0 bytes, no object",
+pub const NEEDED: [&str; 45] = [
+    "1: line of type 1, first header", "1: line of type 1, second header",
+    "1: line of type 3, first header", "1: line of type 3, second header",
+    "1: line of type 4, first header", "1: line of type 4, second header",
+    "1: 0 bytes, another type", "1: 0 bytes, no object", "1: 0 bytes, byte 21",
     "1: refused 7", "1: refused 10",
-    "2: line of type 1", "2: line of type 3", "2: line of type 4", "2: 0 bytes", "2: done",
-    "2: refused 1", "2: refused 2", "2: refused 3", "2: refused 5",
-    "2: refused 7", "2: refused 8", "2: refused 10",
+    "2: line of type 1, first header", "2: line of type 1, second header",
+    "2: line of type 3, first header", "2: line of type 3, second header",
+    "2: line of type 4, first header", "2: line of type 4, second header",
+    "2: 0 bytes", "2: done",
+    "2: refused 1", "2: refused 2", "2: refused 3", "2: refused 4", "2: refused 5",
+    "2: refused 7", "2: refused 8", "2: refused 8, byte 21", "2: refused 10",
     "3: told type 1", "3: told type 3", "3: told type 4",
     "3: told a time that only unit 1 can write", "3: refused 30",
-    "4: line of type 1", "4: line of type 3", "4: line of type 4",
+    "4: line of type 1, first header", "4: line of type 1, second header",
+    "4: line of type 3, first header", "4: line of type 3, second header",
+    "4: line of type 4, first header", "4: line of type 4, second header",
     "4: refused 7, type 1", "4: refused 7, type 3", "4: refused 7, type 4",
     "4: refused 10, type 1", "4: refused 10, type 3", "4: refused 10, type 4",
 ];
@@ -130,38 +126,77 @@ pub const NEEDED: [&str; 33] = [
 /// What came, by name.
 pub fn names(case: &Case, told: &Told) -> Vec<String> {
     let [came, number, ..] = told.reply;
-    let mut names = vec![match (case.question, came) {
+    let name = match (case.question, came) {
         (4, word::REFUSED) => format!("refused {number}, type {}", case.second_number()),
         (_, word::REFUSED) => format!("refused {number}"),
         (_, word::DONE) => "done".to_string(),
         (_, word::TOLD) => format!("told type {}", told.behind[0]),
-        (_, _) if number > 0 => format!("line of type {}", kind_of(case)),
+        (_, _) if number > 0 => line_name(case),
         (1, _) if is_object(&case.first) => "0 bytes, another type".to_string(),
         (1, _) => "0 bytes, no object".to_string(),
         (_, _) => "0 bytes".to_string(),
-    }];
-    if case.question == 3 && came == word::TOLD && past_nanoseconds(&told.behind) {
-        names.push("told a time that only unit 1 can write".to_string());
-    }
+    };
+    let names = [Some(name), shown(case, told)].into_iter().flatten();
     let question = case.question;
-    names.iter().map(|n| format!("{question}: {n}")).collect()
+    names.map(|name| format!("{question}: {name}")).collect()
 }
 
-/// The type of what has a line.
-fn kind_of(case: &Case) -> u32 {
+/// What else an answer shows, if anything.
+fn shown(case: &Case, told: &Told) -> Option<String> {
+    let [came, number, ..] = told.reply;
+    let what = match (case.question, came, number) {
+        (1, word::USED, 0) if only_byte_21(case) => "0 bytes, byte 21",
+        (2, word::REFUSED, 8) if only_byte_21(case) => "refused 8, byte 21",
+        (3, word::TOLD, _) if past_nanoseconds(&told.behind) => {
+            "told a time that only unit 1 can write"
+        }
+        _ => return None,
+    };
+    Some(what.to_string())
+}
+
+/// The bytes from the object on that is asked for.
+fn asked(case: &Case) -> &[u8] {
     match case.question {
-        1 => u32_at(&case.first, 12),
-        2 => u32_at(&case.first, case.number as usize + 12),
-        _ => case.second_number(),
+        2 => &case.first[case.number as usize..],
+        _ => &case.first,
+    }
+}
+
+/// A line's type and header.
+fn line_name(case: &Case) -> String {
+    let object = asked(case);
+    let kind = match case.question {
+        4 => case.second_number(),
+        _ => u32_at(object, 12),
+    };
+    let header = match Header::of(object) {
+        Header::First => "first",
+        Header::Second => "second",
+    };
+    format!("line of type {kind}, {header} header")
+}
+
+/// Is byte 21 all that keeps the object that is asked for from having a line?
+fn only_byte_21(case: &Case) -> bool {
+    let mut bytes = asked(case).to_vec();
+    bytes
+        .iter_mut()
+        .skip(STATUS_GAP)
+        .take(1)
+        .for_each(|gap| *gap = 0);
+    match step(&bytes, 0) {
+        Answer::Object(o) if case.question == 1 && o.next != bytes.len() => false,
+        Answer::Object(o) => KINDS.contains(&o.kind),
+        _ => false,
     }
 }
 
 /// Are these bytes one whole object, of a type that has no line?
 fn is_object(bytes: &[u8]) -> bool {
     let padded = mshelovat_reference::gen::padded(bytes.to_vec());
-    let lines = [kind::CAN_MESSAGE, kind::CAN_OVERLOAD, kind::CAN_STATISTIC];
     match step(&padded, 0) {
-        Answer::Object(o) => o.size as usize == bytes.len() && !lines.contains(&o.kind),
+        Answer::Object(o) => o.size as usize == bytes.len() && !KINDS.contains(&o.kind),
         _ => false,
     }
 }

@@ -1,10 +1,9 @@
 //! W-201: the cases of questions 1 to 4, by sweeps and at random.
-use super::asc::taken;
 use super::asc_texts;
 use super::cases::{Case, LIMIT};
 use mshelovat_reference::asc::{self, LineAt};
 use mshelovat_reference::gen::{self, Rng, DAMAGES, LISTED};
-use mshelovat_reference::header::header_length;
+use mshelovat_reference::header::{header_length, STATUS_GAP};
 use mshelovat_reference::layout::{put, u32_at};
 use mshelovat_reference::records::*;
 
@@ -69,9 +68,13 @@ fn counter(rng: &mut Rng) -> u32 {
 }
 
 fn head(rng: &mut Rng) -> Head {
+    let first = Own::First {
+        client_index: rng.number() as u16,
+    };
+    let both = [first, gen::second_own(rng)];
     Head {
         unit: rng.pick(&[1, 2]),
-        client_index: rng.number() as u16,
+        own: rng.pick(&both),
         version: rng.number() as u16,
         time: number(rng, u64::MAX),
     }
@@ -193,21 +196,17 @@ fn damage(rng: &mut Rng, object: &mut Vec<u8>, turn: usize) {
     }
     let length = object.len();
     let any = rng.number() as u32;
-    match turn % 10 {
+    match turn % 12 {
         0 => object[rng.below(4)] ^= rng.nonzero(),
         1 => {
-            let size = rng.pick(&[0, 15, 16, 31, 33, 40, 48, 0x2020, any as u16]);
+            let size = rng.pick(&[0, 15, 16, 31, 32, 33, 40, 41, 48, 0x2020, any as u16]);
             put(object, 4, &size.to_le_bytes());
         }
-        2 => put(
-            object,
-            6,
-            &rng.pick(&[0, 2, 0x0101, any as u16]).to_le_bytes(),
-        ),
-        3 => {
-            let size = rng.pick(&[0, 15, 16, 35, 36, 37, 48, 49, 60, 64, 0x0100_0024, any]);
-            put(object, 8, &size.to_le_bytes());
+        2 => {
+            let version = rng.pick(&[0, 1, 2, 3, 0x0101, 0x0102, any as u16]);
+            put(object, 6, &version.to_le_bytes());
         }
+        3 => put(object, 8, &any_size(rng).to_le_bytes()),
         4 => {
             let kind = rng.pick(&[0, 1, 2, 3, 4, 5, 50, 62, 86, 103, 120, 0x0100_0003, any]);
             put(object, 12, &kind.to_le_bytes());
@@ -218,18 +217,52 @@ fn damage(rng: &mut Rng, object: &mut Vec<u8>, turn: usize) {
             object.resize(length + more, 0);
         }
         7 => {
-            let size = rng.from_to(33, 68);
+            let size = rng.from_to(33, 76);
             object.resize(size, 0);
             put(object, 8, &(size as u32).to_le_bytes());
         }
         8 => set_reserved(rng, object),
+        9 => {
+            let other = Header::of(object).other();
+            put(object, 4, &other.pair());
+        }
+        10 => {
+            put(object, 4, &gen::wrong_pair(rng));
+            put(object, 8, &any_size(rng).to_le_bytes());
+        }
         _ => object.extend_from_within(..),
     }
 }
 
-/// Sets a byte where an overload's reserved ones stand; in the others, that is a field.
+/// An object size: of one of the types under one of the headers, next to one, or any.
+fn any_size(rng: &mut Rng) -> u32 {
+    let any = rng.number() as u32;
+    rng.pick(&[
+        0,
+        5,
+        15,
+        16,
+        35,
+        36,
+        37,
+        44,
+        45,
+        48,
+        49,
+        56,
+        60,
+        64,
+        68,
+        0x0100_0024,
+        any,
+    ])
+}
+
+/// Sets a byte that is reserved in an overload, of the body or of the second header. In the other types, and in the
+/// first header, it is a field's.
 fn set_reserved(rng: &mut Rng, object: &mut [u8]) {
-    let at = header_length(object) + 2 + rng.below(2);
+    let body = header_length(object);
+    let at = rng.pick(&[body + 2, body + 3, STATUS_GAP, STATUS_GAP]);
     object[at] = rng.nonzero();
 }
 
@@ -301,9 +334,9 @@ fn any_record(rng: &mut Rng, turn: usize) -> Case {
     Case::record(object, kind, room)
 }
 
-/// The length of the line of the record that is taken from these bytes; 0 where it is refused.
+/// The length of the line of the record that these bytes are; 0 where it is refused.
 fn record_length(object: &[u8], kind: u32) -> usize {
-    line_of(&raw(&taken(kind, object))).len()
+    line_of(&raw(&record_in(kind, object))).len()
 }
 
 fn head_of(unit: u32, time: u64) -> Head {
@@ -311,6 +344,17 @@ fn head_of(unit: u32, time: u64) -> Head {
         unit,
         time,
         ..Head::default()
+    }
+}
+
+/// The same under the second header, at another original time.
+fn second_of(unit: u32, time: u64) -> Head {
+    Head {
+        own: Own::Second {
+            status: 1,
+            original: !time,
+        },
+        ..head_of(unit, time)
     }
 }
 
@@ -327,7 +371,7 @@ fn message_of(head: Head, channel: u16, flags: u8, dlc: u8, id: u32) -> Record<'
 
 /// Records with the shortest and the longest lines, and some between.
 fn swept_records(rng: &mut Rng) -> Vec<Record<'static>> {
-    let (first, last) = (head_of(2, 0), head_of(1, u64::MAX));
+    let (first, last) = (second_of(2, 0), head_of(1, u64::MAX));
     let overload = |head, channel| Record::CanOverload(CanOverload { head, channel });
     let longest = CanStatistic {
         head: last,
@@ -345,7 +389,7 @@ fn swept_records(rng: &mut Rng) -> Vec<Record<'static>> {
         overload(last, 65_535),
         message_of(first, 0, 0, 0, 0),
         message_of(last, 65_535, 1, 255, u32::MAX),
-        message_of(head_of(2, u64::MAX), 10, 0x81, 8, 0x8000_0ABC),
+        message_of(second_of(2, u64::MAX), 10, 0x81, 8, 0x8000_0ABC),
         Record::CanStatistic(longest),
         record(rng, 4),
     ]
@@ -361,8 +405,10 @@ pub fn sweeps(rng: &mut Rng) -> Vec<Case> {
         cases.extend(texts.into_iter().map(Case::text));
     }
     for kind in KINDS {
-        let object = can_object(rng, kind);
-        sweep_object(rng, &object, &mut cases);
+        for header in Header::BOTH {
+            let object = gen::object_under(rng, header, kind);
+            sweep_object(rng, &object, &mut cases);
+        }
     }
     cases.extend(asc_texts::edges().into_iter().map(Case::text));
     cases

@@ -21,7 +21,7 @@
 //! 3. A text read: the text.
 //! 4. The line of a record: the bytes of an object, from which the record of the type in the second
 //!    part (u32) is taken without any test, that of zeros where they are too few for header and
-//!    body; the number is the room.
+//!    body; the number is the room. The header is the second exactly where the bytes say (40, 2).
 //!
 //! Behind the reply to 1, 2 and 4 stand the bytes of the room; to 3, what the line tells as 24
 //! numbers, each a u64, all 0 where it is refused. Both sides write lines to one page of 4,096

@@ -1,7 +1,7 @@
 //! Bundles, honest and damaged.
 
 use super::Rng;
-use crate::header::Head;
+use crate::header::Header;
 use crate::layout::{kind, padding, SLIP_LIMIT};
 use crate::object::{step, Answer};
 use crate::slips::Entry;
@@ -270,7 +270,7 @@ fn stray_top(rng: &mut Rng, objects: &[Entry]) -> Entry {
 fn an_entry(rng: &mut Rng, objects: &[Entry]) -> Entry {
     let none = Entry {
         start: 0,
-        size: Head::default().length() as u32 + 4,
+        size: Header::First.length() as u32 + 4,
         kind: kind::CAN_OVERLOAD,
     };
     if objects.is_empty() {
@@ -289,8 +289,8 @@ fn a_listed_entry(rng: &mut Rng, slips: &[Slip]) -> Option<(usize, usize)> {
 
 fn wrong_size(rng: &mut Rng, size: u32) -> u32 {
     match rng.below(3) {
-        0 => size.wrapping_add(rng.from_to(1, 4) as u32),
-        1 => size.wrapping_sub(rng.from_to(1, 4) as u32),
+        0 => size.wrapping_add(rng.pick(&[1, 2, 3, 4, 8])),
+        1 => size.wrapping_sub(rng.pick(&[1, 2, 3, 4, 8])),
         _ => size ^ 1 << rng.below(32),
     }
 }

@@ -1,7 +1,7 @@
 //! Objects and logs, sound and damaged.
 
-use super::{frame, record, Rng};
-use crate::header::{body, header_length, SIGNATURE};
+use super::{frame, record_under, wrong_pair, Rng};
+use crate::header::{body, Header, SIGNATURE, STATUS_GAP};
 use crate::layout::*;
 use crate::object::{has_frame, step, Answer};
 use crate::records::write_any;
@@ -26,13 +26,20 @@ const FOREIGN: [u32; 14] = [
     u32::MAX,
 ];
 
-/// A sound object of a type, without padding. Any type not listed is foreign.
+/// A sound object of a type, without padding, under either header. Any type not
+/// listed is foreign.
 pub fn object(rng: &mut Rng, kind: u32) -> Vec<u8> {
+    let header = rng.pick(&Header::BOTH);
+    object_under(rng, header, kind)
+}
+
+/// A sound object of a type, without padding; if it is listed, under this header.
+pub fn object_under(rng: &mut Rng, header: Header, kind: u32) -> Vec<u8> {
     if row(kind).is_none() {
         return foreign_of(rng, kind);
     }
     let frame = frame(rng);
-    let record = record(rng, kind, &frame);
+    let record = record_under(rng, header, kind, &frame);
     let mut bytes = vec![0; 2_048];
     write_any(&record, &mut bytes).expect("a valid record and room enough");
     let size = u32_at(&bytes, 8);
@@ -111,8 +118,20 @@ pub enum Damage {
     WrapSize,
     /// A header size that is not allowed.
     HeaderSize,
-    /// A header version that is not 1.
+    /// A header version that does not go with the header size.
     HeaderVersion,
+    /// Header size and version of neither header.
+    HeaderPair,
+    /// Header size and version of neither header, and a wrong object size.
+    PairAndSize,
+    /// Header size and version of the other header, on the same bytes.
+    OtherPair,
+    /// The object size that the same body has under the other header.
+    OtherSize,
+    /// The reserved byte of the second header is set.
+    HeaderReserved,
+    /// The log ends within a second header, where a first one would be whole.
+    HeaderCut,
     /// A padding byte is set.
     Padding,
     /// Time unit neither 1 nor 2.
@@ -123,6 +142,8 @@ pub enum Damage {
     StructureLength,
     /// Frame length not that of the frame.
     FrameLength,
+    /// The frame's length, counted from the other header's end.
+    OtherLength,
     /// Data count above 254 or above byte count.
     DataCount,
     /// An f64 that breaks its rule.
@@ -139,12 +160,14 @@ pub enum Damage {
 
 /// Every way to damage a log.
 #[rustfmt::skip]
-pub const DAMAGES: [Damage; 18] = [
+pub const DAMAGES: [Damage; 25] = [
     Damage::Signature, Damage::SmallSize, Damage::WrongSize, Damage::TopSize,
-    Damage::WrapSize, Damage::HeaderSize, Damage::HeaderVersion, Damage::Padding,
-    Damage::Unit, Damage::Reserved, Damage::StructureLength, Damage::FrameLength,
-    Damage::DataCount, Damage::ExactRate, Damage::Kind, Damage::AnyByte,
-    Damage::CutShort, Damage::LooseEnd,
+    Damage::WrapSize, Damage::HeaderSize, Damage::HeaderVersion, Damage::HeaderPair,
+    Damage::PairAndSize, Damage::OtherPair, Damage::OtherSize, Damage::HeaderReserved,
+    Damage::HeaderCut, Damage::Padding, Damage::Unit, Damage::Reserved,
+    Damage::StructureLength, Damage::FrameLength, Damage::OtherLength, Damage::DataCount,
+    Damage::ExactRate, Damage::Kind, Damage::AnyByte, Damage::CutShort,
+    Damage::LooseEnd,
 ];
 
 impl Damage {
@@ -153,14 +176,17 @@ impl Damage {
     pub fn numbers(self) -> &'static [u8] {
         match self {
             Damage::Signature => &[2],
-            Damage::SmallSize | Damage::WrongSize => &[3],
+            Damage::SmallSize | Damage::WrongSize | Damage::OtherSize => &[3],
             Damage::TopSize => &[3, 5],
             Damage::WrapSize => &[5],
             Damage::HeaderSize | Damage::HeaderVersion => &[4],
+            Damage::HeaderPair | Damage::PairAndSize => &[4],
+            Damage::OtherPair => &[3, 8, 9],
+            Damage::HeaderCut => &[5],
             Damage::Padding => &[6],
             Damage::Unit => &[7],
-            Damage::Reserved => &[8],
-            Damage::StructureLength | Damage::FrameLength => &[9],
+            Damage::Reserved | Damage::HeaderReserved => &[8],
+            Damage::StructureLength | Damage::FrameLength | Damage::OtherLength => &[9],
             Damage::DataCount | Damage::ExactRate => &[9],
             Damage::LooseEnd => &[1],
             Damage::Kind | Damage::AnyByte | Damage::CutShort => &[],
@@ -173,9 +199,9 @@ impl Damage {
         let listed = rng.pick(&LISTED);
         match self {
             Damage::WrapSize => foreign,
-            Damage::WrongSize | Damage::HeaderVersion | Damage::Unit => listed,
+            _ if self.asks_listed() => listed,
             Damage::Reserved => rng.pick(&[3, 50, 57, 62, 120, 121]),
-            Damage::StructureLength | Damage::FrameLength => rng.pick(&LISTED[7..]),
+            _ if self.asks_frame() => rng.pick(&LISTED[7..]),
             Damage::DataCount => 50,
             Damage::ExactRate => 57,
             Damage::Padding => rng.pick(&[50, 120, 121, 122, 123, foreign]),
@@ -183,18 +209,50 @@ impl Damage {
         }
     }
 
-    /// Can this very object be damaged so? Only some types have the field, only
-    /// some sizes have padding, and only one LIN message has an exact rate.
+    /// Can it befall every one of the eleven types, and no foreign one?
+    fn asks_listed(self) -> bool {
+        matches!(
+            self,
+            Damage::WrongSize
+                | Damage::HeaderVersion
+                | Damage::HeaderPair
+                | Damage::PairAndSize
+                | Damage::OtherPair
+                | Damage::OtherSize
+                | Damage::HeaderReserved
+                | Damage::HeaderCut
+                | Damage::Unit
+        )
+    }
+
+    /// Can it befall types 120 to 123 alone?
+    fn asks_frame(self) -> bool {
+        matches!(
+            self,
+            Damage::StructureLength | Damage::FrameLength | Damage::OtherLength
+        )
+    }
+
+    /// Can this very object be damaged so? Only some types and headers have the
+    /// field, only some sizes have padding, only one LIN message has an exact
+    /// rate, and most frames may have the other header's size.
     fn fits(self, object: &[u8]) -> bool {
-        let kind = u32_at(object, 12);
+        let was = Sound::new(object, 0);
+        let row = row(was.kind);
         match self {
             Damage::Padding => !object.len().is_multiple_of(4),
-            Damage::WrapSize => row(kind).is_none(),
-            Damage::WrongSize | Damage::HeaderVersion | Damage::Unit => row(kind).is_some(),
-            Damage::Reserved => row(kind).is_some_and(|row| !row.reserved.is_empty()),
-            Damage::StructureLength | Damage::FrameLength => has_frame(kind),
-            Damage::DataCount => kind == kind::FLEXRAY_RECEIVE,
-            Damage::ExactRate => kind == kind::LIN_MESSAGE && body(object).len() == 152,
+            Damage::WrapSize => row.is_none(),
+            Damage::HeaderReserved | Damage::HeaderCut => {
+                row.is_some() && was.header == Header::Second
+            }
+            Damage::OtherSize => {
+                row.is_some_and(|row| !row.bodies.allow(was.header, was.other_size()))
+            }
+            _ if self.asks_listed() => row.is_some(),
+            Damage::Reserved => row.is_some_and(|row| !row.reserved.is_empty()),
+            _ if self.asks_frame() => has_frame(was.kind),
+            Damage::DataCount => was.kind == kind::FLEXRAY_RECEIVE,
+            Damage::ExactRate => was.kind == kind::LIN_MESSAGE && body(object).len() == 152,
             _ => true,
         }
     }
@@ -208,7 +266,18 @@ impl Damage {
             Damage::TopSize => put_size(piece, u32::MAX - rng.below(64) as u32),
             Damage::WrapSize => put_size(piece, wrapping_size(rng, was.start)),
             Damage::HeaderSize => put(piece, 4, &wrong_header_size(rng, was).to_le_bytes()),
-            Damage::HeaderVersion => put(piece, 6, &other(rng, 1).to_le_bytes()),
+            Damage::HeaderVersion => {
+                let version = u16_at(&was.header.pair(), 2);
+                put(piece, 6, &other(rng, version).to_le_bytes());
+            }
+            Damage::HeaderPair => put(piece, 4, &wrong_pair(rng)),
+            Damage::PairAndSize => {
+                put(piece, 4, &wrong_pair(rng));
+                put_size(piece, wrong_size(rng, was));
+            }
+            Damage::OtherPair => put(piece, 4, &was.header.other().pair()),
+            Damage::OtherSize => put_size(piece, was.other_size()),
+            Damage::HeaderReserved => piece[STATUS_GAP] = rng.nonzero(),
             Damage::Padding => {
                 let at = rng.from_to(was.size as usize, piece.len() - 1);
                 piece[at] = rng.nonzero();
@@ -227,11 +296,16 @@ impl Damage {
                 let length = other(rng, u16_at(body, 22));
                 put(body, 22, &length.to_le_bytes());
             }
+            Damage::OtherLength => {
+                let end = was.header.other().length() + FRAME_START;
+                let length = (was.size as u16).wrapping_sub(end as u16);
+                put(was.body(piece), 22, &length.to_le_bytes());
+            }
             Damage::DataCount => break_counts(rng, was.body(piece)),
             Damage::ExactRate => put(was.body(piece), 136, &wrong_rate(rng).to_le_bytes()),
             Damage::Kind => put(piece, 12, &other_kind(rng, was.kind).to_le_bytes()),
             Damage::AnyByte => piece[rng.below(piece.len())] ^= rng.nonzero(),
-            Damage::CutShort | Damage::LooseEnd => {}
+            Damage::HeaderCut | Damage::CutShort | Damage::LooseEnd => {}
         }
     }
 }
@@ -240,8 +314,8 @@ impl Damage {
 struct Sound {
     /// Its first byte in the log.
     start: usize,
-    /// How long its header is, where it is of the eleven types.
-    header: usize,
+    /// Its header, where it is of the eleven types.
+    header: Header,
     /// Its size without the padding.
     size: u32,
     /// Its type number.
@@ -253,7 +327,7 @@ impl Sound {
     fn new(object: &[u8], start: usize) -> Sound {
         Sound {
             start,
-            header: header_length(object),
+            header: Header::of(object),
             size: u32_at(object, 8),
             kind: u32_at(object, 12),
         }
@@ -261,7 +335,13 @@ impl Sound {
 
     /// Its bytes behind the header.
     fn body<'a>(&self, piece: &'a mut [u8]) -> &'a mut [u8] {
-        &mut piece[self.header..]
+        &mut piece[self.header.length()..]
+    }
+
+    /// The size that it would have under the other header.
+    fn other_size(&self) -> u32 {
+        let (header, other) = (self.header.length(), self.header.other().length());
+        self.size + other as u32 - header as u32
     }
 }
 
@@ -291,7 +371,7 @@ fn wrong_size(rng: &mut Rng, was: &Sound) -> u32 {
             1 => was.size.wrapping_sub(rng.from_to(1, 8) as u32),
             2 => {
                 let length = rng.pick(&[31, 1_645, 4, 16, 20, 28, 132, 136, 152, 298, 300]);
-                (was.header + length) as u32
+                (was.header.length() + length) as u32
             }
             3 => rng.from_to(16, 1_700) as u32,
             _ => rng.number() as u32,
@@ -315,7 +395,7 @@ fn wrapping_size(rng: &mut Rng, start: usize) -> u32 {
 
 fn wrong_header_size(rng: &mut Rng, was: &Sound) -> u16 {
     if row(was.kind).is_some() {
-        return other(rng, was.header as u16);
+        return other(rng, was.header.length() as u16);
     }
     match rng.below(3) {
         0 => rng.below(16) as u16,
@@ -399,6 +479,10 @@ fn damaged_by(rng: &mut Rng, count: usize, sound: Vec<u8>, ways: &[Damage]) -> (
         place = log.len();
         let loose = rng.from_to(1, 15);
         log.extend(&object(rng, 3)[..loose]);
+    }
+    if ways.contains(&Damage::HeaderCut) {
+        let [first, second] = Header::BOTH.map(Header::length);
+        log.truncate(was.start + rng.from_to(first, second - 1));
     }
     if ways.contains(&Damage::CutShort) {
         log.truncate(rng.below(log.len()));

@@ -1,7 +1,8 @@
 //! Records of every type.
 
+use super::headers::{first as head, second_own, wrong_pair};
 use super::Rng;
-use crate::header::header_length;
+use crate::header::STATUS_GAP;
 use crate::layout::{kind, put, row, FLEXRAY_DATA, FRAME_LIMIT};
 use crate::object::has_frame;
 use crate::records::*;
@@ -17,9 +18,24 @@ pub fn frame(rng: &mut Rng) -> Vec<u8> {
     rng.bytes(length)
 }
 
-/// A valid record of one of the eleven types, with fields of every value.
-/// `frame` is lent to types 120 to 123 and must not be above 1,612 bytes.
+/// A valid record of one of the eleven types, with fields of every value, under
+/// either header. `frame` is lent to types 120 to 123 and must not be above
+/// 1,612 bytes.
 pub fn record<'a>(rng: &mut Rng, kind: u32, frame: &'a [u8]) -> Record<'a> {
+    let header = rng.pick(&Header::BOTH);
+    record_under(rng, header, kind, frame)
+}
+
+/// A valid record under this header.
+pub fn record_under<'a>(rng: &mut Rng, header: Header, kind: u32, frame: &'a [u8]) -> Record<'a> {
+    let mut record = first_record(rng, kind, frame);
+    if header == Header::Second {
+        head_of(&mut record).own = second_own(rng);
+    }
+    record
+}
+
+fn first_record<'a>(rng: &mut Rng, kind: u32, frame: &'a [u8]) -> Record<'a> {
     match kind {
         kind::CAN_MESSAGE => Record::CanMessage(can_message(rng)),
         kind::CAN_OVERLOAD => Record::CanOverload(can_overload(rng)),
@@ -51,7 +67,9 @@ pub fn any_record<'a>(rng: &mut Rng, kind: u32, frame: &'a [u8]) -> Record<'a> {
 
 /// The bytes of an object whose record may be invalid, with a frame that may be
 /// too long. Half the time what a write must set right is wrong too: signature,
-/// header size and version, object size, reserved bytes and the two lengths.
+/// header size and version, object size, reserved bytes and the two lengths. Now
+/// and then they name another header than they have; a LIN message does not,
+/// since its length would then be none that a LIN message has.
 pub fn raw_object(rng: &mut Rng, kind: u32) -> Vec<u8> {
     let mut frame = frame(rng);
     if rng.once_in(6) {
@@ -62,13 +80,24 @@ pub fn raw_object(rng: &mut Rng, kind: u32) -> Vec<u8> {
     if rng.once_in(2) {
         spoil_fixed(rng, &mut object, kind);
     }
+    if kind != kind::LIN_MESSAGE && rng.once_in(6) {
+        let pairs = [Header::of(&object).other().pair(), wrong_pair(rng)];
+        put(&mut object, 4, &rng.pick(&pairs));
+    }
     object
 }
 
-/// Rubbish over what is no field of the record.
+/// Rubbish over what is no field of the record. The header stays the same one:
+/// a pair that is neither header's counts as the first's.
 fn spoil_fixed(rng: &mut Rng, object: &mut [u8], kind: u32) {
-    let (header, body) = object.split_at_mut(header_length(object));
-    put(header, 0, &rng.array::<12>());
+    let header = Header::of(object);
+    let (front, body) = object.split_at_mut(header.length());
+    put(front, 0, &rng.array::<4>());
+    match header {
+        Header::First => put(front, 4, &wrong_pair(rng)),
+        Header::Second => front[STATUS_GAP] = rng.byte(),
+    }
+    put(front, 8, &rng.array::<4>());
     for offset in row(kind).expect("a listed type").reserved {
         body[*offset] = rng.byte();
     }
@@ -140,15 +169,6 @@ fn sound_rate(rng: &mut Rng) -> u64 {
         0 => 19_200f64.to_bits(),
         1 => rng.pick(&[0, 1, f64::MAX.to_bits(), f64::MIN_POSITIVE.to_bits()]),
         _ => rng.bits() % f64::INFINITY.to_bits(),
-    }
-}
-
-fn head(rng: &mut Rng) -> Head {
-    Head {
-        unit: rng.from_to(1, 2) as u32,
-        client_index: rng.number() as u16,
-        version: rng.number() as u16,
-        time: rng.number(),
     }
 }
 

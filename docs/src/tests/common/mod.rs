@@ -72,6 +72,36 @@ pub fn flexray(data_count: u16, byte_count: u16) -> Vec<u8> {
     object
 }
 
+/// The original time stamp that [`second`] puts in.
+pub const ORIGINAL: u64 = 0x0807_0605_0403_0201;
+
+/// The same object under the second header: eight bytes longer, its low byte of
+/// the client index for a status.
+pub fn second(object: &[u8]) -> Vec<u8> {
+    let size = u32::from_le_bytes(object[8..12].try_into().unwrap()) + 8;
+    let (front, body) = object.split_at(32);
+    let mut second = [front, &ORIGINAL.to_le_bytes(), body].concat();
+    second[4..8].copy_from_slice(&[40, 0, 2, 0]);
+    second[8..12].copy_from_slice(&size.to_le_bytes());
+    second[21] = 0;
+    second
+}
+
+/// An object under the first header, and under the second.
+pub fn both(object: Vec<u8>) -> [Vec<u8>; 2] {
+    let second = second(&object);
+    [object, second]
+}
+
+/// Where a byte of the first header's object stands in this one: behind the
+/// second header eight bytes further on.
+pub fn moved(object: &[u8], offset: usize) -> usize {
+    match object[4] {
+        40 if offset >= 32 => offset + 8,
+        _ => offset,
+    }
+}
+
 /// A refusal as a result.
 pub fn refused<T>(number: u8, place: usize) -> Result<T, Refusal> {
     Err(Refusal { number, place })

@@ -1,0 +1,136 @@
+//! What came, and what must come.
+use super::cases::Case;
+use super::replies::Told;
+use mshelovat_reference::gen::LISTED;
+use mshelovat_reference::header::{body, Header, STATUS_GAP};
+use mshelovat_reference::layout::{number, row, u16_at, u32_at, FRAME_START};
+use mshelovat_reference::object::{step, Answer};
+use std::collections::BTreeMap;
+
+const READ: [&str; 2] = ["read, first header", "read, second header"];
+const WRITTEN: [&str; 2] = ["written, first header", "written, second header"];
+
+/// What a refusal can show of the headers, and its number.
+const SHOWN: [(&str, u8); 7] = [
+    (PAIR_AND_SIZE, number::HEADER),
+    (FIRST_SIZE, number::SIZE),
+    (SECOND_SIZE, number::SIZE),
+    (GAP, number::RESERVED),
+    (GAP_AND_CONTENT, number::RESERVED),
+    (GAP_AND_UNIT, number::UNIT),
+    (FIRST_LENGTH, number::CONTENT),
+];
+const PAIR_AND_SIZE: &str = "refused, the size being wrong under both headers";
+const FIRST_SIZE: &str = "refused under (40, 2), with a size of the first header";
+const SECOND_SIZE: &str = "refused under (32, 1), with a size of the second header";
+const GAP: &str = "refused for byte 21";
+const GAP_AND_CONTENT: &str = "refused for byte 21, the content being wrong too";
+const GAP_AND_UNIT: &str = "refused for the unit, byte 21 being set too";
+const FIRST_LENGTH: &str = "refused under (40, 2), the frame length being size minus 64";
+
+/// How often each refusal came, and each type was read and written under each header; what the refusals showed of the
+/// headers; what else came, by question.
+#[derive(Default)]
+pub struct Seen(BTreeMap<&'static str, BTreeMap<u64, usize>>);
+
+impl Seen {
+    pub fn note(&mut self, case: &Case, told: &Told) {
+        let [came, number, place, ..] = told.reply;
+        match (case.question, came) {
+            (question, 3) => {
+                self.count("refused", number);
+                if question <= 5 && number <= 9 {
+                    let shown = shown(&case.log, number as u8, place as usize);
+                    shown.iter().for_each(|what| self.count(what, number));
+                }
+            }
+            // The second of a record's numbers is its header.
+            (5, 6) => self.count(READ[told.behind[8] as usize - 1], case.wanted().into()),
+            (6, 5) if LISTED.contains(&u32_at(&case.log, 12)) => {
+                let header = Header::of(&case.log) as usize;
+                self.count(WRITTEN[header], u32_at(&case.log, 12).into());
+            }
+            (question, _) => self.count("not refused, by question", question.into()),
+        }
+    }
+
+    fn count(&mut self, what: &'static str, number: u64) {
+        *self.0.entry(what).or_default().entry(number).or_default() += 1;
+    }
+
+    pub fn print(&self) {
+        for (what, times) in &self.0 {
+            println!("{what}: {times:?}");
+        }
+    }
+
+    /// Prints and counts those of the numbers that never came.
+    fn missing(&self, what: &str, numbers: &[u64]) -> usize {
+        let came = |number| {
+            let times = self.0.get(what);
+            times.is_some_and(|times| times.contains_key(number))
+        };
+        let never: Vec<_> = numbers.iter().filter(|number| !came(number)).collect();
+        if !never.is_empty() {
+            println!("never {what}: {never:?}");
+        }
+        never.len()
+    }
+
+    /// How many never came of what must come.
+    pub fn all_missing(&self) -> usize {
+        let types = LISTED.map(u64::from);
+        let refusals: Vec<u64> = (1..=11).chain(20..=27).collect();
+        let by_type = READ.iter().chain(&WRITTEN);
+        let shown = SHOWN.iter();
+        self.missing("refused", &refusals)
+            + by_type
+                .map(|what| self.missing(what, &types))
+                .sum::<usize>()
+            + shown
+                .map(|(what, number)| self.missing(what, &[u64::from(*number)]))
+                .sum::<usize>()
+    }
+}
+
+/// What it shows of the headers that this object of a log was refused by this number.
+fn shown(log: &[u8], number: u8, place: usize) -> Vec<&'static str> {
+    let holds = |(what, of): &(&'static str, u8)| {
+        (*of == number && shows(what, log, place)).then_some(*what)
+    };
+    SHOWN.iter().filter_map(holds).collect()
+}
+
+fn shows(what: &str, log: &[u8], place: usize) -> bool {
+    let object = &log[place..];
+    let size = u32_at(object, 8);
+    let Some(row) = row(u32_at(object, 12)) else {
+        return false;
+    };
+    let allowed = |header| row.bodies.allow(header, size);
+    let second = Header::of(object) == Header::Second;
+    match what {
+        PAIR_AND_SIZE => !Header::BOTH.into_iter().any(allowed),
+        FIRST_SIZE => second && allowed(Header::First),
+        SECOND_SIZE => !second && allowed(Header::Second),
+        GAP => second && object[STATUS_GAP] != 0 && without_gap(log, place) != Some(8),
+        GAP_AND_CONTENT => second && without_gap(log, place) == Some(9),
+        GAP_AND_UNIT => second && object[STATUS_GAP] != 0,
+        _ => {
+            let end = Header::First.length() + FRAME_START;
+            second
+                && row.kind >= 120
+                && usize::from(u16_at(body(object), 22)) + end == size as usize
+        }
+    }
+}
+
+/// The number by which the object is refused once byte 21 is zero.
+fn without_gap(log: &[u8], place: usize) -> Option<u8> {
+    let mut log = log.to_vec();
+    log[place + STATUS_GAP] = 0;
+    match step(&log, place) {
+        Answer::Refused(refusal) => Some(refusal.number),
+        _ => None,
+    }
+}
