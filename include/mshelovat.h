@@ -92,7 +92,7 @@ uint32_t mshelovat_check(const uint8_t *log, size_t log_length, const uint8_t *b
                          uint64_t *out, size_t out_count);
 
 /* The object of type `kind` at position `at`, copied to the front of `bytes` without its padding, in its type's layout
- * (docs/FORMAT.md). Lend two numbers.
+ * and under the header that it has in the log, of 32 or of 40 bytes (docs/FORMAT.md). Lend two numbers.
  * 0: out is its size and the position behind its padding.
  * MSHELOVAT_OTHER: an object of another type was let through; out is 0 and the position behind its padding.
  * MSHELOVAT_DONE: `at` is exactly the log's end; out is 0 and at.
@@ -103,7 +103,9 @@ uint32_t mshelovat_read(const uint8_t *log, size_t log_length, size_t at, uint32
 
 /* Writes an object, handed in as its bytes without padding, with its padding to the front of `bytes`: one of the eleven
  * types as its record, any other as foreign. Of the eleven only what the record holds is taken from the object, zeros
- * where it is too short: signature, sizes and reserved bytes are written as the layout has them. Lend one number.
+ * where it is too short: signature, sizes and reserved bytes are written as the layout has them. The record is read and
+ * written under the second header where the object says header size 40 and version 2, else under the first, whatever it
+ * says there. Lend one number.
  * 0: out[0] is how many bytes were used, padding included.
  * 7 or 9: the record is refused; 11: the bytes are no foreign object; 10: `bytes` has no room; out[0] is 0, and `bytes`
  * is as it was. Where no number is lent the answer is 10 too, and nothing is written. */

@@ -9,7 +9,8 @@ use lib.Dec.{eqb}
 use Rattle.headers.specs.Format.{headSize, sizeAt, kindAt, lengthAt, bodyOf, headerBlank}
 use Rattle.headers.specs.Rows.{rowOf, listed}
 use Rattle.headers.specs.Layout.{Sized}
-use Rattle.headers.specs.HeadTests.{first, headFault, blankFault}
+use Rattle.headers.specs.HeadTests.{first, headFault}
+use Rattle.headers.specs.ObjectTests.{blankFault}
 use Rattle.headers.specs.Form.{bodyFault}
 use Rattle.headers.specs.Types.{numberOf, canMessage, overload, statistic}
 use Rattle.objects.specs.Kinds.{formatOf}

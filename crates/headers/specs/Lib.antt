@@ -3,6 +3,7 @@ pub mod Types
 pub mod Rows
 pub mod Header
 pub mod HeadTests
+pub mod ObjectTests
 pub mod Layout
 pub mod TypeFormat
 pub mod Form
