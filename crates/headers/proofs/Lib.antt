@@ -4,6 +4,7 @@ pub mod TypeSearch
 pub mod TypeKinds
 pub mod Objects
 pub mod Heads
+pub mod Pairs
 pub mod Origins
 pub mod Known
 pub mod Layouts
