@@ -3,12 +3,13 @@ use super::cases::Case;
 use super::replies::Told;
 use mshelovat_reference::gen::LISTED;
 use mshelovat_reference::header::{body, Header, STATUS_GAP};
-use mshelovat_reference::layout::{number, row, u16_at, u32_at, FRAME_START};
+use mshelovat_reference::layout::{number, row, u16_at, u32_at, u64_at, FRAME_START};
 use mshelovat_reference::object::{step, Answer};
 use std::collections::BTreeMap;
 
 const READ: [&str; 2] = ["read, first header", "read, second header"];
 const WRITTEN: [&str; 2] = ["written, first header", "written, second header"];
+const STAMPS: [&str; 2] = ["bits of the time stamp", "bits of the original time stamp"];
 
 /// What a refusal can show of the headers, and its number.
 const SHOWN: [(&str, u8); 7] = [
@@ -29,9 +30,12 @@ const GAP_AND_UNIT: &str = "refused for the unit, byte 21 being set too";
 const FIRST_LENGTH: &str = "refused under (40, 2), the frame length being size minus 64";
 
 /// How often each refusal came, and each type was read and written under each header; what the refusals showed of the
-/// headers; what else came, by question.
+/// headers; what else came, by question. Of the records read: the bits of both time stamps.
 #[derive(Default)]
-pub struct Seen(BTreeMap<&'static str, BTreeMap<u64, usize>>);
+pub struct Seen {
+    times: BTreeMap<&'static str, BTreeMap<u64, usize>>,
+    stamps: [Bits; 2],
+}
 
 impl Seen {
     pub fn note(&mut self, case: &Case, told: &Told) {
@@ -44,8 +48,7 @@ impl Seen {
                     shown.iter().for_each(|what| self.count(what, number));
                 }
             }
-            // The second of a record's numbers is its header.
-            (5, 6) => self.count(READ[told.behind[8] as usize - 1], case.wanted().into()),
+            (5, 6) => self.note_record(case.wanted(), &told.behind),
             (6, 5) if LISTED.contains(&u32_at(&case.log, 12)) => {
                 let header = Header::of(&case.log) as usize;
                 self.count(WRITTEN[header], u32_at(&case.log, 12).into());
@@ -54,27 +57,37 @@ impl Seen {
         }
     }
 
+    /// The second of a record's numbers is its header, the fifth its time stamp; the sixth is the original one, which
+    /// the first header does not have.
+    fn note_record(&mut self, kind: u32, numbers: &[u8]) {
+        let number = |i: usize| u64_at(numbers, 8 * i);
+        let header = number(1) as usize;
+        self.count(READ[header - 1], kind.into());
+        let [time, original] = &mut self.stamps;
+        time.note(number(4));
+        if header == 2 {
+            original.note(number(5));
+        }
+    }
+
     fn count(&mut self, what: &'static str, number: u64) {
-        *self.0.entry(what).or_default().entry(number).or_default() += 1;
+        let times = self.times.entry(what).or_default();
+        *times.entry(number).or_default() += 1;
     }
 
     pub fn print(&self) {
-        for (what, times) in &self.0 {
+        for (what, times) in &self.times {
             println!("{what}: {times:?}");
+        }
+        for (what, Bits { set, clear }) in STAMPS.iter().zip(&self.stamps) {
+            println!("{what}: set {set:016x}, clear {clear:016x}");
         }
     }
 
-    /// Prints and counts those of the numbers that never came.
     fn missing(&self, what: &str, numbers: &[u64]) -> usize {
-        let came = |number| {
-            let times = self.0.get(what);
-            times.is_some_and(|times| times.contains_key(number))
-        };
-        let never: Vec<_> = numbers.iter().filter(|number| !came(number)).collect();
-        if !never.is_empty() {
-            println!("never {what}: {never:?}");
-        }
-        never.len()
+        let times = self.times.get(what);
+        let came = |number| times.is_some_and(|times| times.contains_key(&number));
+        missing(what, numbers, came)
     }
 
     /// How many never came of what must come.
@@ -83,6 +96,7 @@ impl Seen {
         let refusals: Vec<u64> = (1..=11).chain(20..=27).collect();
         let by_type = READ.iter().chain(&WRITTEN);
         let shown = SHOWN.iter();
+        let stamps = STAMPS.iter().zip(&self.stamps);
         self.missing("refused", &refusals)
             + by_type
                 .map(|what| self.missing(what, &types))
@@ -90,7 +104,41 @@ impl Seen {
             + shown
                 .map(|(what, number)| self.missing(what, &[u64::from(*number)]))
                 .sum::<usize>()
+            + stamps.map(|(what, bits)| bits.missing(what)).sum::<usize>()
     }
+}
+
+/// The bits of a number that came set, and those that came clear.
+#[derive(Default)]
+struct Bits {
+    set: u64,
+    clear: u64,
+}
+
+impl Bits {
+    fn note(&mut self, number: u64) {
+        self.set |= number;
+        self.clear |= !number;
+    }
+
+    /// Each of the 64 must come both ways.
+    fn missing(&self, what: &str) -> usize {
+        let all: Vec<u64> = (0..64).collect();
+        let one_way = |way, bits: u64| {
+            let came = |bit| (bits >> bit) & 1 == 1;
+            missing(&format!("{way}, {what}"), &all, came)
+        };
+        one_way("set", self.set) + one_way("clear", self.clear)
+    }
+}
+
+/// Prints and counts those of the numbers that never came.
+fn missing(what: &str, numbers: &[u64], came: impl Fn(u64) -> bool) -> usize {
+    let never: Vec<_> = numbers.iter().filter(|number| !came(**number)).collect();
+    if !never.is_empty() {
+        println!("never {what}: {never:?}");
+    }
+    never.len()
 }
 
 /// What it shows of the headers that this object of a log was refused by this number.

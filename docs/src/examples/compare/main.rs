@@ -25,9 +25,10 @@
 //!
 //! The judge also fails where something never came that must come: then COUNT is too small or the cases are. These are
 //! the refusals 1 to 11 and 20 to 27 (28 asks for a log above 4 GiB and stays out); each of the eleven types, read and
-//! written under each header; and what shows in which order the headers are tested: 4 where the size is wrong under
-//! both headers, 3 where it is one of the other header's, 8 for byte 21 alone and with a wrong content, 7 with byte 21
-//! set too, and 9 where a frame's length under the second header is the size minus 64.
+//! written under each header; what shows in which order the headers are tested: 4 where the size is wrong under both
+//! headers, 3 where it is one of the other header's, 8 for byte 21 alone and with a wrong content, 7 with byte 21 set
+//! too, and 9 where a frame's length under the second header is the size minus 64; and of the records read, each of the
+//! 64 bits of the time stamp, and under the second header of the original one, both set and clear.
 pub mod cases;
 mod coverage;
 mod headers;
