@@ -11,11 +11,16 @@ import struct
 here = pathlib.Path(__file__).parent
 
 
+def padded(size, kind, data):
+    """Size and type of an object, and its bytes with as many zero bytes behind as the size leaves over by four."""
+    return size, kind, data + bytes(size % 4)
+
+
 def obj(kind, stamp, body):
-    """An object of a listed type, with the padding behind it; the time unit is nanoseconds."""
+    """An object of a listed type; the time unit is nanoseconds."""
     size = 32 + len(body)
     head = b"LOBJ" + struct.pack("<HHIIIHHQ", 32, 1, size, kind, 2, 0, 0, stamp)
-    return size, kind, head + body + bytes(-size % 4)
+    return padded(size, kind, head + body)
 
 
 def wake_up(n, stamp):
@@ -36,8 +41,8 @@ def frame(n, stamp):
 
 
 def foreign(n, stamp):
-    size = 20 + n % 3
-    return size, 9999, b"LOBJ" + struct.pack("<HHII", 16, 7, size, 9999) + bytes(range(size - 16)) + bytes(-size % 4)
+    size = 20 + n // 10
+    return padded(size, 9999, b"LOBJ" + struct.pack("<HHII", 16, 7, size, 9999) + bytes(range(size - 16)))
 
 
 objects, starts, log, stamp = [], [], b"", 0

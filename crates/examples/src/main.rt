@@ -1,5 +1,7 @@
-// Runs document 01's examples of reading and writing that are not marked, and those of W-202, over the proved calls, and
-// prints what came out: a line an example. Those of slips, frames and foreign objects stand in `slip_examples`.
+// Runs document 01's examples of reading and writing that are not marked, and those of W-202 and W-204, over the proved
+// calls, and prints what came out: a line an example. Those of slips, frames and foreign objects stand in
+// `slip_examples`.
+mod left_over;
 mod reading;
 mod samples;
 mod second_header;
@@ -26,4 +28,9 @@ fn main() {
     second_header::reserved();
     second_header::frames();
     second_header::rooms();
+    left_over::foreigners();
+    left_over::one_over();
+    left_over::three_over();
+    left_over::rooms();
+    left_over::python_can();
 }

@@ -67,8 +67,8 @@ pub fn padding() {
 pub fn foreigners() {
     let mut log = samples::foreigner();
     tell::step(b"a foreign object of 17 bytes: ", &log, 0);
-    log[19] = 1;
-    tell::step(b"a foreign object whose last padding byte is 1: ", &log, 0);
+    log[17] = 1;
+    tell::step(b"a foreign object whose padding byte is 1: ", &log, 0);
 }
 
 pub fn tails() {

@@ -1,7 +1,9 @@
 // Objects that the examples begin with, and records.
 use headers::Header;
 use headers::Origin;
+use outcomes::Written;
 ghost use mathlib.Core.Path.{_≡_};
+ghost use Prim.Native.Nat.{_≤_};
 ghost use lib.ListN.{length};
 
 // The overload of document 01's M2.
@@ -19,10 +21,27 @@ pub fn frame() -> [u8; 1680]
     ensures { λ r. ⌜ 1680 ≡ length r ⌝ }
 {
     let mut log = room();
+    put_frame(&[0u8; 1612], &mut log);
+    log
+}
+
+// Writes a frame of these bytes to the front of `out`.
+pub fn put_frame(bytes: &[u8], out: &mut [u8]) -> Written {
     let header = header(2);
-    let mut frame = ethernet_records::frame_in(&log);
+    let mut frame = ethernet_records::frame_in(&[0u8; 64]);
     frame.header = header;
-    ethernet_records::write_frame(frame, &[0u8; 1612], &mut log);
+    ethernet_records::write_frame(frame, bytes, out)
+}
+
+// A frame of these bytes, and an overload that begins at a place behind it.
+pub fn behind(bytes: &[u8], at: usize) -> [u8; 1680]
+    requires { ⌜ at ≤ 1644 ⌝ }
+    ensures { λ r. ⌜ 1680 ≡ length r ⌝ }
+{
+    let mut log = room();
+    put_frame(bytes, &mut log);
+    let overload = overload();
+    fields::put_bytes(&mut log, at, &overload);
     log
 }
 
@@ -62,7 +81,7 @@ pub fn message() -> lin::Message {
     }
 }
 
-// A foreign object of 17 bytes, type 9999, and its padding.
+// A foreign object of 17 bytes, type 9999, and three zero bytes, of which the first is its padding.
 pub fn foreigner() -> [u8; 20]
     ensures { λ r. ⌜ 20 ≡ length r ⌝ }
 {
@@ -72,6 +91,34 @@ pub fn foreigner() -> [u8; 20]
     fields::put32(&mut log, 8, 17);
     fields::put32(&mut log, 12, 9999);
     log
+}
+
+// Four objects of this type in python-can's form, end to end: 104 to 107 bytes, and none to three zero bytes behind.
+pub fn python_can(kind: u32) -> [u8; 428]
+    ensures { λ r. ⌜ 428 ≡ length r ⌝ }
+{
+    let mut log = [7u8; 428];
+    fields::put_bytes(&mut log, 0, &head(104, kind));
+    fields::put_bytes(&mut log, 104, &head(105, kind));
+    fields::put_zeros(&mut log, 209, 1);
+    fields::put_bytes(&mut log, 210, &head(106, kind));
+    fields::put_zeros(&mut log, 316, 2);
+    fields::put_bytes(&mut log, 318, &head(107, kind));
+    fields::put_zeros(&mut log, 425, 3);
+    log
+}
+
+// What python-can begins an object with: header size 32, version 1, and this size and type.
+fn head(size: u32, kind: u32) -> [u8; 16]
+    ensures { λ r. ⌜ 16 ≡ length r ⌝ }
+{
+    let mut head = [0u8; 16];
+    fields::put32(&mut head, 0, Header::SIGNATURE);
+    fields::put16(&mut head, 4, 32);
+    fields::put16(&mut head, 6, 1);
+    fields::put32(&mut head, 8, size);
+    fields::put32(&mut head, 12, kind);
+    head
 }
 
 // Zeros: room for the object of the longest frame, and four bytes more.

@@ -1,5 +1,5 @@
--- 01, "Marked examples": M1 to M14, a row for each thing that an example says. `marked-examples` of proofs/Marked:
--- every reply is the one told.
+-- 01, "Marked examples": M1 to M14, M3 to M5 as W-204 has them, a row for each thing that an example says.
+-- `marked-examples` of proofs/Marked: every reply is the one told.
 use Prim.Native.Nat.{ℕ}
 use Prim.Native.String.{String}
 use mathlib.Core.List.{List, [], _∷_, _++_}
@@ -11,11 +11,11 @@ use Rattle.marked_examples.specs.Questions.{Question, walk, next, overlo
 unfoldable pub m2 : List ℕ
 m2 = hex "4C4F424A 2000 0100 24000000 03000000 02000000 0000 0000 40420F0000000000 0100 0000"
 
--- type 120, size 125, unit 2; structure length 32, frame length 61; 61 bytes of frame, and three of padding
+-- type 120, size 125, unit 2; structure length 32, frame length 61; 61 bytes of frame, and one of padding
 unfoldable pub m3 : List ℕ
 m3 =
     hex "4C4F424A 2000 0100 7D000000 78000000 02000000 0000 0000 0000000000000000"
-    ++ hex "2000 0000 0100 0000 0000000000000000 00000000 0000 3D00 00000000 00000000" ++ zeros 61 ++ zeros 3
+    ++ hex "2000 0000 0100 0000 0000000000000000 00000000 0000 3D00 00000000 00000000" ++ zeros 61 ++ zeros 1
 
 unfoldable pub m9 : List ℕ
 m9 = hex "4C4F424A 1000 0000 10000000 0F270000"
@@ -38,9 +38,9 @@ marked =
     ∷ row "M2: one object" (walk m2) (objects 1)
     ∷ row "M2: 36 bytes, no padding" (next m2 0) (object 0 36 3 36)
     ∷ row "M2: an overload, channel 1, 1,000,000 ns" (overload m2 0) (channel 1 2 1000000)
-    ∷ row "M3: a frame of 61 bytes has size 125 and occupies 128" (next m3 0) (object 0 125 120 128)
-    ∷ row "M4: cut to 127" (walk (take 127 m3)) (refused 5 0)
-    ∷ row "M5: last padding byte 1" (walk (set m3 127 1)) (refused 6 0)
+    ∷ row "M3: a frame of 61 bytes has size 125 and occupies 126" (next m3 0) (object 0 125 120 126)
+    ∷ row "M4: cut to 125" (walk (take 125 m3)) (refused 5 0)
+    ∷ row "M5: last padding byte 1" (walk (set m3 125 1)) (refused 6 0)
     ∷ row "M6: M2 with unit 0 and byte 34 set to 1" (walk (set (set m2 16 0) 34 1)) (refused 7 0)
     ∷ row "M7: only byte 34" (walk (set m2 34 1)) (refused 8 0)
     ∷ row "M8: M2 with size 40" (walk (set m2 8 40)) (refused 3 0)

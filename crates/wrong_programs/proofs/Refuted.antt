@@ -41,7 +41,7 @@ use Rattle.slips.specs.Soonest.{troubleOf}
 use Rattle.slips.specs.Check.{checkOf}
 use Rattle.marked_examples.specs.Hex.{hex}
 use Rattle.marked_examples.specs.Marked.{m2, m9, m11}
-use Rattle.wrong_programs.specs.Samples.{seventeen, unclean, wrapping, lin168, second, m12, otherSize, otherType, strayAndTwice, twenty}
+use Rattle.wrong_programs.specs.Samples.{seventeen, nineteen, unclean, wrapping, lin168, second, m12, otherSize, otherType, strayAndTwice, paddedSize}
 use Rattle.wrong_programs.specs.Wrong.{Trial, step, walk, read, write, check, Meets, Wrong, wrongs, AllRefuted}
 
 -- answers as numbers
@@ -115,7 +115,7 @@ refuted (w ∷ ws) e =
     (differ (w .tried) (not-true _ (h .0)), refuted ws (h .1))
 
 computed : noneSame wrongs ≡ true
-unfolding noneSame same wrongs m2 m9 m11 m12 seventeen unclean wrapping lin168 second otherSize otherType strayAndTwice twenty hex walkOf metAt nextAt answered faultOf find isFirst isSecond lengthAt originAt headerOf unitOk headerBlank typeList rowIn allowed pairOk lengthFits first padding num val nums le allZero lookAt recordIn recordAt overloadOf tailOf messageOf header.object header.lengthBy header.headerBy header.head slots.bytesOf overloadSlots bytesOf refusalOf checkOf cutOf cut.faultOf shapeOk big troubleOf
+unfolding noneSame same wrongs m2 m9 m11 m12 seventeen nineteen unclean wrapping lin168 second otherSize otherType strayAndTwice paddedSize hex walkOf metAt nextAt answered faultOf find isFirst isSecond lengthAt originAt headerOf unitOk headerBlank typeList rowIn allowed pairOk lengthFits first padding num val nums le allZero lookAt recordIn recordAt overloadOf tailOf messageOf header.object header.lengthBy header.headerBy header.head slots.bytesOf overloadSlots bytesOf refusalOf checkOf cutOf cut.faultOf shapeOk big troubleOf
 computed = refl
 
 pub all-refuted : AllRefuted wrongs

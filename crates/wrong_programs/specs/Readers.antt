@@ -1,6 +1,6 @@
 -- 01, "What a reader of the contracts must find" and "Slips of the pen": wrong readers, each a step as `Cursor::step`
 -- is, and its walk.
-use Prim.Native.Nat.{ℕ, zero, suc, _+_, _%_}
+use Prim.Native.Nat.{ℕ, zero, suc, _+_, _*_, _/_, _%_}
 use mathlib.Core.Bool.{Bool, cond, not, _&&_, _||_}
 use mathlib.Core.List.{List, [], _∷_, _++_}
 use lib.ListN.{length, take, drop}
@@ -60,6 +60,10 @@ firstOnly = stepBy (λ s at. cond (eqb at 0) (faultOf s) 0) behind
 -- takes the size to include the padding
 abbrev pub paddingInSize : List ℕ → ℕ → Step
 paddingInSize = stepBy (λ s at. faultOf (drop at s)) (λ s at. at + sizeAt (drop at s))
+
+-- W-204: goes on where the size is filled up to a multiple of four, as document 01 did
+abbrev pub filledUp : List ℕ → ℕ → Step
+filledUp = stepBy (λ s at. faultOf (drop at s)) (λ s at. at + (sizeAt (drop at s) + 3) / 4 * 4)
 
 -- steps over foreign objects without testing the padding
 abbrev pub foreignUntested : List ℕ → ℕ → Step

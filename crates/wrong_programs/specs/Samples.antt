@@ -11,12 +11,16 @@ use Rattle.outcomes.specs.Reads.{recordIn}
 use Rattle.marked_examples.specs.Hex.{hex}
 use Rattle.marked_examples.specs.Marked.{m11}
 
--- a foreign object of 17 bytes with its padding; the same with a padding byte that is not zero
+-- foreign objects of 17 and of 19 bytes with their padding, one byte and three; the first with a padding byte that is
+-- not zero
 unfoldable pub seventeen : List ℕ
-seventeen = hex "4C4F424A 1000 0000 11000000 0F270000 07 000000"
+seventeen = hex "4C4F424A 1000 0000 11000000 0F270000 07 00"
+
+unfoldable pub nineteen : List ℕ
+nineteen = hex "4C4F424A 1000 0000 13000000 0F270000 070707 000000"
 
 unfoldable pub unclean : List ℕ
-unclean = hex "4C4F424A 1000 0000 11000000 0F270000 07 000001"
+unclean = hex "4C4F424A 1000 0000 11000000 0F270000 07 01"
 
 -- the first bytes of a foreign object of 4,294,967,280 bytes: at 16 its end is at 2 to the power of 32
 unfoldable pub wrapping : List ℕ
@@ -50,5 +54,5 @@ unfoldable pub strayAndTwice : List ℕ
 strayAndTwice = m11 ++ hex "0000000E 01 02 00000000 00000024 00000003" ++ hex "0000000E 01 03 00000000 00000028 00000003"
 
 -- a slip for `seventeen` whose size is with padding
-unfoldable pub twenty : List ℕ
-twenty = hex "0000000E 01 01 00000000 00000014 0000270F"
+unfoldable pub paddedSize : List ℕ
+paddedSize = hex "0000000E 01 01 00000000 00000012 0000270F"

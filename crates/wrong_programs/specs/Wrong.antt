@@ -1,5 +1,5 @@
--- 01, "What a reader of the contracts must find" and "Slips of the pen", and W-202's: the wrong programs, each beside an
--- input on which its contract does not hold. `all-refuted` of proofs/Refuted says so of every row.
+-- 01, "What a reader of the contracts must find" and "Slips of the pen", W-202's and W-204's: the wrong programs, each
+-- beside an input on which its contract does not hold. `all-refuted` of proofs/Refuted says so of every row.
 use Prim.Native.Nat.{ℕ}
 use Prim.Native.String.{String}
 use mathlib.Core.Path.{_≡_}
@@ -21,7 +21,7 @@ use Rattle.outcomes.specs.Writes.{Outcome}
 use Rattle.slips.specs.declared.pass.Verdict.{Verdict}
 use Rattle.slips.specs.Check.{checkOf}
 use Rattle.marked_examples.specs.Marked.{m2, m9, m11}
-use Rattle.wrong_programs.specs.Samples.{seventeen, unclean, wrapping, lin168, second, m12, otherSize, otherType, strayAndTwice, twenty}
+use Rattle.wrong_programs.specs.Samples.{seventeen, nineteen, unclean, wrapping, lin168, second, m12, otherSize, otherType, strayAndTwice, paddedSize}
 use Rattle.wrong_programs.specs.Readers as readers
 use Rattle.wrong_programs.specs.Readers.{walkBy}
 use Rattle.wrong_programs.specs.Records as records
@@ -68,6 +68,9 @@ wrongs =
     ∷ wrong "a walk with a made-up object count" (walk readers.countsOneMore (m2 ++ m2))
     ∷ wrong "the object size taken to include its padding, in the step" (step readers.paddingInSize seventeen 0)
     ∷ wrong "its walk" (walk (walkBy readers.paddingInSize) (seventeen ++ m9))
+    ∷ wrong "the next object sought at a multiple of four, one byte left over" (step readers.filledUp seventeen 0)
+    ∷ wrong "the same, three bytes left over" (step readers.filledUp nineteen 0)
+    ∷ wrong "its walk" (walk (walkBy readers.filledUp) (nineteen ++ m9))
     ∷ wrong "foreign objects stepped over without testing the padding" (walk (walkBy readers.foreignUntested) (unclean ++ m2))
     ∷ wrong "the last object's padding not tested" (walk (walkBy readers.lastUntested) (m2 ++ unclean))
     ∷ wrong "start and size added in 32 bits" (step readers.sum32 (m9 ++ wrapping) 16)
@@ -85,7 +88,7 @@ wrongs =
     ∷ wrong "a check with a made-up object count" (check checks.countsOneMore (m2 ++ m2) m11)
     ∷ wrong "entries compared by start alone, so a wrong size passes" (check checks.byStartAlone (m2 ++ m2) otherSize)
     ∷ wrong "entries compared without the type" (check checks.withoutType (m2 ++ m2) otherType)
-    ∷ wrong "the object size taken to include its padding, in a slip" (check checks.paddingInSize seventeen twenty)
+    ∷ wrong "the object size taken to include its padding, in a slip" (check checks.paddingInSize seventeen paddedSize)
     ∷ wrong "26 tried before 25" (check checks.twiceFirst (m2 ++ m2) strayAndTwice)
     ∷ wrong "trouble told before a later damage of the log" (check checks.troubleFirst (m2 ++ set m2 34 1) [])
     ∷ []

@@ -3,8 +3,8 @@
 //! here, is what the project was built from; docs/FORMAT.md tells the same in
 //! other words. This crate was written from the paper alone. Where that can be
 //! read in two ways, points 1 to 15 of docs/DECISIONS.md hold. Document 02 has
-//! the change requests: [`asc`] is the first of them, W-201, and the second
-//! header in [`header`] is W-202.
+//! the change requests: [`asc`] is the first of them, W-201, the second header
+//! in [`header`] is W-202, and the padding in [`layout`] is W-204's.
 //!
 //! * [`header`]: the two headers and their lengths
 //! * [`layout`]: type list, padding, refusal numbers

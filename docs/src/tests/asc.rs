@@ -327,20 +327,20 @@ fn lines_at_positions() {
         (LineAt::Refused(refusal), position)
     };
     assert_eq!(at(&log, 0, 64), line(29, 36));
-    assert_eq!(at(&log, 36, 0), line(0, 164));
-    assert_eq!(at(&log, 164, 25), line(25, 212));
-    assert_eq!(at(&log, 164, 24), no(10, 0, 164));
-    assert_eq!(at(&log, 212, 0), line(0, 228));
-    assert_eq!(at(&log, 228, 0), (LineAt::Done, 228));
-    assert_eq!(at(&log, 229, 64), no(1, 229, 229));
+    assert_eq!(at(&log, 36, 0), line(0, 162));
+    assert_eq!(at(&log, 162, 25), line(25, 210));
+    assert_eq!(at(&log, 162, 24), no(10, 0, 162));
+    assert_eq!(at(&log, 210, 0), line(0, 226));
+    assert_eq!(at(&log, 226, 0), (LineAt::Done, 226));
+    assert_eq!(at(&log, 227, 64), no(1, 227, 227));
     assert_eq!(at(&log, usize::MAX, 64), no(1, usize::MAX, usize::MAX));
     assert_eq!(at(&log, 4, 64), no(2, 4, 4));
     let mut damaged = log.clone();
-    damaged[164 + 16] = 0;
-    assert_eq!(at(&damaged, 164, 0), no(7, 164, 164));
+    damaged[162 + 16] = 0;
+    assert_eq!(at(&damaged, 162, 0), no(7, 162, 162));
     damaged[34] = 1;
     assert_eq!(at(&damaged, 0, 0), no(8, 0, 0));
-    damaged[163] = 1;
+    damaged[161] = 1;
     assert_eq!(at(&damaged, 36, 64), no(6, 36, 36));
     assert_eq!(at(&log[..100], 36, 64), no(5, 36, 36));
     // The second line over the first, which goes on behind it.

@@ -60,7 +60,7 @@ fn too_few_cases_do_not_pass() {
 #[test]
 fn every_break_shows() {
     let answers = answers(7, COUNT);
-    for name in ["padding", "offset", "room"] {
+    for name in ["padding", "offset", "room", "rule"] {
         let wrong = Break::named(name).unwrap();
         assert!(!judged(7, COUNT, wrong, &answers), "{name}");
     }

@@ -1,4 +1,5 @@
-//! The examples of document 01: marked ones, run ones, slips of the pen.
+//! The examples of document 01: marked ones, run ones, slips of the pen. M3, M4
+//! and M5 are as W-204 has them.
 
 mod common;
 use common::*;
@@ -51,18 +52,18 @@ fn m2_overload() {
 #[test]
 fn m3_to_m5_frame_of_61() {
     let log = frame_object(125);
-    assert_eq!(log.len(), 128);
+    assert_eq!(log.len(), 126);
     let object = Object {
         start: 0,
         size: 125,
         kind: 120,
-        next: 128,
+        next: 126,
     };
     assert_eq!(step(&log, 0), Answer::Object(object));
     assert_eq!(frame_view(&log, 0), [0xAB; 61]);
-    assert_eq!(walk(&log[..127]), refused(5, 0));
+    assert_eq!(walk(&log[..125]), refused(5, 0));
     let mut spoilt = log.clone();
-    spoilt[127] = 1;
+    spoilt[125] = 1;
     assert_eq!(walk(&spoilt), refused(6, 0));
 }
 
@@ -164,19 +165,24 @@ fn pen_size_does_not_count_the_padding() {
     let log = joined(&[frame_object(125), m2()]);
     assert_eq!(walk(&log), Ok(2));
     assert_eq!(rest(&log, 0), m2());
-    let right = slip(1, &[(0, 125, 120), (128, 36, 3)]);
+    let right = slip(1, &[(0, 125, 120), (126, 36, 3)]);
     assert_eq!(both(&log, &right), Ok(2));
-    let padded = slip(1, &[(0, 128, 120), (128, 36, 3)]);
-    assert_eq!(both(&log, &padded), refused(25, 0));
+    for size in [124, 126, 127, 128] {
+        let padded = slip(1, &[(0, size, 120), (126, 36, 3)]);
+        assert_eq!(both(&log, &padded), refused(25, 0));
+    }
+    // The start that the second would have by document 01.
+    let old = slip(1, &[(0, 125, 120), (128, 36, 3)]);
+    assert_eq!(both(&log, &old), refused(27, 126));
 }
 
 #[test]
 fn pen_foreign_padding_is_tested() {
     let mut log = foreign(17, 16);
-    log.extend([0, 0, 1]);
+    log.extend([1]);
     log.extend(m2());
     assert_eq!(walk(&log), refused(6, 0));
-    log[19] = 0;
+    log[17] = 0;
     assert_eq!(walk(&log), Ok(2));
     assert_eq!(foreign_view(&log, 0), foreign(17, 16));
 }

@@ -3,7 +3,8 @@
 mod common;
 use mshelovat_reference::gen::{self, Rng};
 use mshelovat_reference::header::Header;
-use mshelovat_reference::object::{step, walk, Answer};
+use mshelovat_reference::layout::u32_at;
+use mshelovat_reference::object::{step, walk, Answer, Object};
 use mshelovat_reference::slips::check;
 
 #[test]
@@ -28,16 +29,22 @@ fn sound_logs_are_sound() {
     assert!(walk(&log).is_ok() && log.len() >= 100_000);
 }
 
+/// The objects that a walk lets through.
+fn objects(log: &[u8]) -> Vec<Object> {
+    let mut objects: Vec<Object> = Vec::new();
+    while let Answer::Object(object) = step(log, objects.last().map_or(0, |o| o.next)) {
+        objects.push(object);
+    }
+    objects
+}
+
 /// Foreign objects too, and each type under each header about as often.
 #[test]
 fn sound_logs_hold_every_type() {
     let log = gen::sound_log(&mut Rng(42), 3_000);
-    let mut position = 0;
-    let mut objects = Vec::new();
-    while let Answer::Object(object) = step(&log, position) {
-        objects.push((object.kind, Header::of(object.bytes(&log))));
-        position = object.next;
-    }
+    let header = |object: &Object| Header::of(object.bytes(&log));
+    let objects = objects(&log);
+    let objects: Vec<_> = objects.iter().map(|o| (o.kind, header(o))).collect();
     for kind in gen::LISTED {
         let [first, second] = Header::BOTH.map(|header| {
             let same = objects.iter().filter(|object| **object == (kind, header));
@@ -46,6 +53,20 @@ fn sound_logs_hold_every_type() {
         assert!(first > 60 && second > 60, "{kind}: {first} {second}");
     }
     assert!(objects.iter().any(|(kind, _)| !gen::LISTED.contains(kind)));
+}
+
+/// Sizes that leave 0, 1, 2 and 3 over, and with them starts that leave 2 over.
+#[test]
+fn sound_logs_hold_every_padding() {
+    let log = gen::sound_log(&mut Rng(50), 3_000);
+    let (mut sizes, mut starts) = ([[0; 4]; 2], [0; 4]);
+    for object in objects(&log) {
+        sizes[usize::from(object.is_foreign())][object.size as usize % 4] += 1;
+        starts[object.start % 4] += 1;
+    }
+    assert!(sizes.iter().flatten().all(|times| *times > 80), "{sizes:?}");
+    assert!(starts[0] > 500 && starts[2] > 500, "{starts:?}");
+    assert_eq!((starts[1], starts[3]), (0, 0));
 }
 
 #[test]
@@ -86,6 +107,32 @@ fn damages_give_their_numbers_at_their_place() {
             let must = promised.contains(&(number as u8));
             assert!(!must || *times > 0, "{damage:?}: {met:?}");
         }
+    }
+}
+
+/// Document 01's padding, behind listed objects and behind foreign ones.
+#[test]
+fn old_padding_gives_four_numbers() {
+    let mut rng = Rng(51);
+    let mut met = [[0; 10]; 2];
+    for _ in 0..1_000 {
+        let (log, place) = gen::damaged_log_at(&mut rng, 1, gen::Damage::OldPadding);
+        let number = walk(&log).expect_err("a damaged log").number;
+        let start = match number {
+            1 | 2 => objects(&log).last().expect("the damaged one").start,
+            _ => place,
+        };
+        let kind = u32_at(&log, start + 12);
+        let size = u32_at(&log, start + 8) as usize;
+        let zeros = if size % 4 == 1 { 3 } else { 1 };
+        assert!(log[start + size..][..zeros].iter().all(|b| *b == 0));
+        let behind = &log[start + size + zeros..];
+        assert_eq!(behind.is_empty(), matches!(number, 1 | 5));
+        assert!(behind.is_empty() || behind.starts_with(b"LOBJ"));
+        met[usize::from(gen::LISTED.contains(&kind))][usize::from(number)] += 1;
+    }
+    for times in met {
+        assert!([1, 2, 5, 6].iter().all(|n| times[*n] > 50), "{met:?}");
     }
 }
 

@@ -256,27 +256,27 @@ fn padding_goes_by_size_not_by_position() {
     let Answer::Object(object) = step(&log, 1) else {
         panic!("an object");
     };
-    assert_eq!((object.start, object.size, object.next), (1, 125, 129));
-    assert_eq!(step(&log, 129), Answer::Done);
+    assert_eq!((object.start, object.size, object.next), (1, 125, 127));
+    assert_eq!(step(&log, 127), Answer::Done);
 }
 
 #[test]
 fn views() {
     let log = joined(&[frame_object(125), foreign(20, 16), m2(), vec![1, 2]]);
     assert_eq!(frame_view(&log, 0), [0xAB; 61]);
-    assert_eq!(rest(&log, 0), &log[128..]);
+    assert_eq!(rest(&log, 0), &log[126..]);
     assert_eq!(foreign_view(&log, 0), []);
-    assert_eq!(foreign_view(&log, 128), &log[128..148]);
-    assert_eq!(frame_view(&log, 128), []);
-    assert_eq!(rest(&log, 128), &log[148..]);
+    assert_eq!(foreign_view(&log, 126), &log[126..146]);
+    assert_eq!(frame_view(&log, 126), []);
+    assert_eq!(rest(&log, 126), &log[146..]);
     assert_eq!(
-        (foreign_view(&log, 148), frame_view(&log, 148)),
+        (foreign_view(&log, 146), frame_view(&log, 146)),
         (&[][..], &[][..])
     );
-    assert_eq!(rest(&log, 148), [1, 2]);
-    assert_eq!(rest(&log, 184), [1, 2]);
-    assert_eq!(rest(&log, 186), []);
-    for past in [187, usize::MAX] {
+    assert_eq!(rest(&log, 146), [1, 2]);
+    assert_eq!(rest(&log, 182), [1, 2]);
+    assert_eq!(rest(&log, 184), []);
+    for past in [185, usize::MAX] {
         assert_eq!(rest(&log, past), []);
         assert_eq!(
             (foreign_view(&log, past), frame_view(&log, past)),

@@ -1,9 +1,9 @@
-//! The cases: by a sweep over the two headers and over the bytes, lengths and rooms of one object of each type under
-//! each header and of a bundle, and at random.
-use super::headers;
+//! The cases: by a sweep over the two headers, over the padding, and over the bytes, lengths and rooms of one object of
+//! each type under each header and of a bundle, and at random.
+use super::{headers, padding};
 use mshelovat_reference::gen::{self, Rng, DAMAGES, FAULTS, LISTED};
 use mshelovat_reference::header::Header;
-use mshelovat_reference::layout::{occupied, put, u32_at};
+use mshelovat_reference::layout::{self, occupied, put, u32_at};
 use mshelovat_reference::object::{has_frame, step, Answer};
 
 /// The most bytes of a log, and of a bundle.
@@ -43,7 +43,23 @@ impl Case {
         u32_at(&self.behind, 0)
     }
 
-    fn checks(log: Vec<u8>, behind: Vec<u8>) -> Case {
+    pub fn steps(log: Vec<u8>, number: u64) -> Case {
+        Case {
+            question: 1,
+            number,
+            log,
+            behind: Vec::new(),
+        }
+    }
+
+    pub fn walks(log: Vec<u8>) -> Case {
+        Case {
+            question: 2,
+            ..Case::steps(log, 0)
+        }
+    }
+
+    pub fn checks(log: Vec<u8>, behind: Vec<u8>) -> Case {
         Case {
             question: 3,
             number: 0,
@@ -116,11 +132,13 @@ fn one_of_each(rng: &mut Rng, header: Header) -> Vec<Vec<u8>> {
     objects
 }
 
-/// A sound object of a type, of another size than those that are there; a frame is short and has padding behind it.
+/// A sound object of a type, of another size than those that are there; a frame is short and has one, two or three
+/// bytes of padding behind it, by its type.
 fn another(rng: &mut Rng, header: Header, kind: u32, objects: &[Vec<u8>]) -> Vec<u8> {
     loop {
         let object = gen::object_under(rng, header, kind);
-        let small = object.len() <= header.length() + 80 && object.len() % 4 == 1;
+        let behind = layout::padding(object.len() as u32);
+        let small = object.len() <= header.length() + 48 && behind == 1 + kind % 3;
         let there = |o: &Vec<u8>| u32_at(o, 12) == kind && o.len() == object.len();
         if (small || !has_frame(kind)) && !objects.iter().any(there) {
             return object;
@@ -130,6 +148,7 @@ fn another(rng: &mut Rng, header: Header, kind: u32, objects: &[Vec<u8>]) -> Vec
 
 fn sweep(rng: &mut Rng) -> Vec<Case> {
     let mut cases = headers::sweep(rng);
+    cases.extend(padding::sweep(rng));
     let mut objects = Header::BOTH.map(|header| one_of_each(rng, header)).concat();
     objects.push(gen::foreign(rng));
     for object in objects {
@@ -165,9 +184,14 @@ fn sweep_reads(rng: &mut Rng, object: &[u8], cases: &mut Vec<Case>) {
     }
 }
 
+/// How many bytes an object has with its padding.
+pub fn whole(object: &[u8]) -> usize {
+    occupied(object.len() as u32) as usize
+}
+
 /// An object, written: to no room and little, and to every room from a few bytes too little to a few more than enough.
 fn sweep_rooms(object: &[u8], cases: &mut Vec<Case>) {
-    for room in ends(object.len().next_multiple_of(4) + 4, 2) {
+    for room in ends(whole(object) + 4, 2) {
         cases.push(Case::writes(6, object.to_vec(), room));
     }
 }
@@ -178,8 +202,7 @@ fn sweep_writes(rng: &mut Rng, object: &[u8], cases: &mut Vec<Case>) {
     let kind = u32_at(object, 12);
     let kept = |at: usize| (12..16).contains(&at) || kind == 57 && (4..8).contains(&at);
     for at in places(object).filter(|at| !kept(*at)) {
-        let room = object.len().next_multiple_of(4);
-        cases.push(Case::writes(6, changed(rng, object, at), room));
+        cases.push(Case::writes(6, changed(rng, object, at), whole(object)));
     }
 }
 
@@ -206,14 +229,9 @@ fn at_random(rng: &mut Rng, number: usize) -> Case {
         1 => {
             let log = any_log(rng, turn);
             let number = any_position(rng, &log);
-            Case {
-                question: 1,
-                number,
-                log,
-                behind: Vec::new(),
-            }
+            Case::steps(log, number)
         }
-        2 => Case::writes(2, any_log(rng, turn), 0),
+        2 => Case::walks(any_log(rng, turn)),
         3 => checks(rng, turn),
         4 => {
             let log = often_sound(rng, turn);
@@ -223,12 +241,12 @@ fn at_random(rng: &mut Rng, number: usize) -> Case {
         5 => reads(rng, turn),
         6 => {
             let object = any_object(rng, turn);
-            let room = any_room(rng, occupied(object.len() as u32) as usize);
+            let room = any_room(rng, whole(&object));
             Case::writes(6, object, room)
         }
         _ => {
             let object = any_foreign(rng, turn);
-            let room = any_room(rng, occupied(object.len() as u32) as usize);
+            let room = any_room(rng, whole(&object));
             Case::writes(7, object, room)
         }
     }

@@ -2,9 +2,9 @@
 use super::cases::Case;
 use super::replies::Told;
 use mshelovat_reference::gen::LISTED;
-use mshelovat_reference::header::{body, Header, STATUS_GAP};
+use mshelovat_reference::header::{body, Header, SIGNATURE, STATUS_GAP};
 use mshelovat_reference::layout::{number, row, u16_at, u32_at, u64_at, FRAME_START};
-use mshelovat_reference::object::{step, Answer};
+use mshelovat_reference::object::{has_frame, step, Answer, Object};
 use std::collections::BTreeMap;
 
 const READ: [&str; 2] = ["read, first header", "read, second header"];
@@ -29,8 +29,45 @@ const GAP_AND_CONTENT: &str = "refused for byte 21, the content being wrong too"
 const GAP_AND_UNIT: &str = "refused for the unit, byte 21 being set too";
 const FIRST_LENGTH: &str = "refused under (40, 2), the frame length being size minus 64";
 
+/// What the size of an object that was let through leaves over when divided by four: listed or foreign, within its log
+/// or last in it.
+const SIZE_OVER: [[&str; 2]; 2] = [
+    ["size over, listed, within", "size over, listed, last"],
+    ["size over, foreign, within", "size over, foreign, last"],
+];
+/// The same of what was written.
+const WRITTEN_OVER: [&str; 2] = ["size over, frame written", "size over, foreign written"];
+/// What the start of an object leaves over, by question, and what it can.
+const START_OVER: [(&str, &[u64]); 5] = [
+    ("start over, step", &[0, 1, 2, 3]),
+    ("start over, walk", &[0, 2]),
+    ("start over, check", &[0, 2]),
+    ("start over, log written again", &[0, 2]),
+    ("start over, read", &[0, 1, 2, 3]),
+];
+/// What an object is refused by whose padding goes up to a multiple of four: listed or foreign.
+const OLD: [&str; 2] = [
+    "refused, listed, padded as document 01 had it",
+    "refused, foreign, padded as document 01 had it",
+];
+
+/// What must come, and with which numbers.
+fn musts() -> Vec<(&'static str, Vec<u64>)> {
+    let types = LISTED.map(u64::from).to_vec();
+    let by_type = READ.iter().chain(&WRITTEN);
+    let by_size = SIZE_OVER.iter().flatten().chain(&WRITTEN_OVER);
+    let mut musts = vec![("refused", (1..=11).chain(20..=27).collect())];
+    musts.extend(by_type.map(|what| (*what, types.clone())));
+    musts.extend(SHOWN.map(|(what, number)| (what, vec![number.into()])));
+    musts.extend(by_size.map(|what| (*what, vec![0, 1, 2, 3])));
+    musts.extend(START_OVER.map(|(what, over)| (what, over.to_vec())));
+    musts.extend(OLD.map(|what| (what, vec![1, 2, 5, 6])));
+    musts
+}
+
 /// How often each refusal came, and each type was read and written under each header; what the refusals showed of the
-/// headers; what else came, by question. Of the records read: the bits of both time stamps.
+/// headers and of the padding; what sizes and starts left over; what else came, by question. Of the records read: the
+/// bits of both time stamps.
 #[derive(Default)]
 pub struct Seen {
     times: BTreeMap<&'static str, BTreeMap<u64, usize>>,
@@ -46,6 +83,8 @@ impl Seen {
                 if question <= 5 && number <= 9 {
                     let shown = shown(&case.log, number as u8, place as usize);
                     shown.iter().for_each(|what| self.count(what, number));
+                    let old = old_padding(&case.log, number as u8, place as usize);
+                    old.iter().for_each(|what| self.count(what, number));
                 }
             }
             (5, 6) => self.note_record(case.wanted(), &told.behind),
@@ -54,6 +93,33 @@ impl Seen {
                 self.count(WRITTEN[header], u32_at(&case.log, 12).into());
             }
             (question, _) => self.count("not refused, by question", question.into()),
+        }
+        if came != 3 {
+            for object in let_through(case) {
+                self.note_over(case, &object);
+            }
+            self.note_written_over(case, &told.behind);
+        }
+    }
+
+    /// What size and start of an object leave over.
+    fn note_over(&mut self, case: &Case, object: &Object) {
+        let last = object.next == case.log.len();
+        let what = SIZE_OVER[usize::from(object.is_foreign())][usize::from(last)];
+        self.count(what, u64::from(object.size % 4));
+        let (what, _) = START_OVER[usize::from(case.question) - 1];
+        self.count(what, object.start as u64 % 4);
+    }
+
+    /// The same of the size of an object that was written to the front of a room.
+    fn note_written_over(&mut self, case: &Case, room: &[u8]) {
+        if !matches!(case.question, 6 | 7) {
+            return;
+        }
+        let (size, kind) = (u32_at(room, 8), u32_at(room, 12));
+        let foreign = row(kind).is_none();
+        if foreign || has_frame(kind) {
+            self.count(WRITTEN_OVER[usize::from(foreign)], u64::from(size % 4));
         }
     }
 
@@ -92,19 +158,11 @@ impl Seen {
 
     /// How many never came of what must come.
     pub fn all_missing(&self) -> usize {
-        let types = LISTED.map(u64::from);
-        let refusals: Vec<u64> = (1..=11).chain(20..=27).collect();
-        let by_type = READ.iter().chain(&WRITTEN);
-        let shown = SHOWN.iter();
+        let musts = musts();
+        let counted = musts.iter().map(|(what, of)| self.missing(what, of));
         let stamps = STAMPS.iter().zip(&self.stamps);
-        self.missing("refused", &refusals)
-            + by_type
-                .map(|what| self.missing(what, &types))
-                .sum::<usize>()
-            + shown
-                .map(|(what, number)| self.missing(what, &[u64::from(*number)]))
-                .sum::<usize>()
-            + stamps.map(|(what, bits)| bits.missing(what)).sum::<usize>()
+        let bits = stamps.map(|(what, bits)| bits.missing(what));
+        counted.sum::<usize>() + bits.sum::<usize>()
     }
 }
 
@@ -181,4 +239,56 @@ fn without_gap(log: &[u8], place: usize) -> Option<u8> {
         Answer::Refused(refusal) => Some(refusal.number),
         _ => None,
     }
+}
+
+/// The objects that were let through where nothing was refused: that at the position, or all of a log.
+fn let_through(case: &Case) -> Vec<Object> {
+    let mut objects = Vec::new();
+    let (mut position, most) = match case.question {
+        1 | 5 => (case.number as usize, 1),
+        2..=4 => (0, usize::MAX),
+        _ => return objects,
+    };
+    while let Answer::Object(object) = step(&case.log, position) {
+        position = object.next;
+        objects.push(object);
+        if objects.len() == most {
+            break;
+        }
+    }
+    objects
+}
+
+/// Is this the refusal of an object whose padding goes up to a multiple of four? Two zero bytes too many stand behind
+/// it (1 and 2) or two too few (5 and 6), and then comes the log's end (1 and 5) or an object (2 and 6).
+fn old_padding(log: &[u8], number: u8, place: usize) -> Option<&'static str> {
+    let start = match number {
+        number::HEAD | number::SIGNATURE => object_up_to(log, place)?,
+        number::CUT | number::PADDING => place,
+        _ => return None,
+    };
+    let object = &log[start..];
+    let size = u32_at(object, 8) as usize;
+    let old = size.next_multiple_of(4);
+    let zeros = object.get(size..old)?;
+    let behind = &object[old..];
+    let follows = match number {
+        number::HEAD | number::CUT => behind.is_empty(),
+        _ => behind.starts_with(&SIGNATURE),
+    };
+    let foreign = row(u32_at(object, 12)).is_none();
+    let is_old = size % 2 == 1 && zeros.iter().all(|b| *b == 0) && follows;
+    is_old.then_some(OLD[usize::from(foreign)])
+}
+
+/// The start of the object that a walk meets right before this place.
+fn object_up_to(log: &[u8], place: usize) -> Option<usize> {
+    let mut position = 0;
+    while let Answer::Object(object) = step(log, position) {
+        if object.next == place {
+            return Some(object.start);
+        }
+        position = object.next;
+    }
+    None
 }

@@ -2,8 +2,8 @@
 //!
 //! `compare make SEED COUNT` writes the cases to standard output; the Rattle program `compare` answers them;
 //! `compare judge SEED COUNT` makes the same cases again, reads the replies from standard input and compares. With
-//! `--break NAME` behind it, `judge` answers wrongly in one place (`padding`, `offset` or `room`), so that one sees it
-//! fail.
+//! `--break NAME` behind it, `judge` answers wrongly in one place (`padding`, `offset`, `room`, or `rule`: a step goes
+//! on behind the padding that document 01 had), so that one sees it fail.
 //!
 //! A case: the question (1 byte), the lengths of log and bundle (u32), the position or the room (u64), the log, the
 //! bundle. The questions: 1 the step at the position; 2 the walk; 3 the check of the bundle; 4 the log written again to
@@ -29,10 +29,18 @@
 //! headers, 3 where it is one of the other header's, 8 for byte 21 alone and with a wrong content, 7 with byte 21 set
 //! too, and 9 where a frame's length under the second header is the size minus 64; and of the records read, each of the
 //! 64 bits of the time stamp, and under the second header of the original one, both set and clear.
+//!
+//! Of the padding must come: sizes that leave 0, 1, 2 and 3 over when divided by four, of objects of the eleven types
+//! and of foreign ones, within a log and last in it, and of frames and foreign objects that are written; starts that
+//! leave 0 to 3 over where a step or a read begins at them, and 0 and 2 in a whole log that is walked, checked or
+//! written again (from 0 on no start is odd); and what the padding that document 01 had is refused by, behind an object
+//! of the eleven types and behind a foreign one: two zero bytes too many by 2, or by 1 at the log's end, two too few by
+//! 6, or by 5 at its end.
 pub mod cases;
 mod coverage;
 mod headers;
 mod numbers;
+mod padding;
 pub mod replies;
 
 use cases::{Case, Cases, LIMIT};
@@ -108,7 +116,7 @@ pub fn judge(seed: u64, count: usize, wrong: Break, input: &mut impl Read) -> bo
 
 fn usage() -> ! {
     eprintln!(
-        "usage: compare make SEED COUNT, or compare judge SEED COUNT [--break padding|offset|room]"
+        "usage: compare make SEED COUNT, or compare judge SEED COUNT [--break padding|offset|room|rule]"
     );
     exit(2);
 }

@@ -1,7 +1,7 @@
 //! This reader's own answer to a case, and the faults that `--break` puts in.
 use super::cases::Case;
 use super::numbers::Numbers;
-use mshelovat_reference::layout::{kind, number, padding, u32_at, Refusal};
+use mshelovat_reference::layout::{kind, number, occupied, u32_at, Refusal};
 use mshelovat_reference::object::{step, walk, Answer};
 use mshelovat_reference::records::*;
 use mshelovat_reference::slips::{check, check_plain};
@@ -35,6 +35,8 @@ pub enum Break {
     Offset,
     /// An object does not go into a room of exactly its length.
     Room,
+    /// A step goes on behind the padding that document 01 had, up to a multiple of four.
+    Rule,
 }
 
 impl Break {
@@ -43,6 +45,7 @@ impl Break {
             "padding" => Some(Break::Padding),
             "offset" => Some(Break::Offset),
             "room" => Some(Break::Room),
+            "rule" => Some(Break::Rule),
             _ => None,
         }
     }
@@ -87,18 +90,18 @@ fn refused(refusal: Refusal, next: u64) -> Reply {
 fn step_reply(case: &Case, wrong: Break) -> Reply {
     let (log, position) = (&case.log, case.number);
     match step(log, position as usize) {
-        Answer::Object(o) => [
-            1,
-            o.start as u64,
-            o.size.into(),
-            o.kind.into(),
-            o.next as u64,
-        ],
+        Answer::Object(o) => {
+            let next = match wrong {
+                Break::Rule => position + u64::from(o.size).next_multiple_of(4),
+                _ => o.next as u64,
+            };
+            [1, o.start as u64, o.size.into(), o.kind.into(), next]
+        }
         Answer::Done => [2, 0, 0, 0, position],
         Answer::Refused(r) if wrong == Break::Padding && r.number == number::PADDING => {
             let object = &log[r.place..];
             let (size, kind) = (u32_at(object, 8), u32_at(object, 12));
-            let next = position + u64::from(size + padding(size));
+            let next = position + occupied(size);
             [1, position, size.into(), kind.into(), next]
         }
         Answer::Refused(r) => refused(r, position),

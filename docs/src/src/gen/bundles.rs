@@ -2,7 +2,7 @@
 
 use super::Rng;
 use crate::header::Header;
-use crate::layout::{kind, padding, SLIP_LIMIT};
+use crate::layout::{kind, occupied, padding, SLIP_LIMIT};
 use crate::object::{step, Answer};
 use crate::slips::Entry;
 
@@ -303,7 +303,7 @@ fn spoil_entry(fault: Fault, rng: &mut Rng, slips: &mut [Slip]) {
     match fault {
         Fault::StraySize => entry.size = wrong_size(rng, entry.size),
         Fault::PaddedSize if padding(entry.size) == 0 => entry.size = entry.size.wrapping_add(4),
-        Fault::PaddedSize => entry.size = entry.size.wrapping_add(padding(entry.size)),
+        Fault::PaddedSize => entry.size = occupied(entry.size) as u32,
         _ => entry.kind ^= 1 << rng.below(32),
     }
 }

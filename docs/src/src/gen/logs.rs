@@ -74,7 +74,7 @@ fn foreign_of(rng: &mut Rng, kind: u32) -> Vec<u8> {
 
 /// An object with its padding behind it.
 pub fn padded(mut object: Vec<u8>) -> Vec<u8> {
-    object.resize(object.len().next_multiple_of(4), 0);
+    object.resize(occupied(object.len() as u32) as usize, 0);
     object
 }
 
@@ -134,6 +134,8 @@ pub enum Damage {
     HeaderCut,
     /// A padding byte is set.
     Padding,
+    /// The padding goes up to a multiple of four, as document 01 had it.
+    OldPadding,
     /// Time unit neither 1 nor 2.
     Unit,
     /// A reserved byte is set.
@@ -160,14 +162,14 @@ pub enum Damage {
 
 /// Every way to damage a log.
 #[rustfmt::skip]
-pub const DAMAGES: [Damage; 25] = [
+pub const DAMAGES: [Damage; 26] = [
     Damage::Signature, Damage::SmallSize, Damage::WrongSize, Damage::TopSize,
     Damage::WrapSize, Damage::HeaderSize, Damage::HeaderVersion, Damage::HeaderPair,
     Damage::PairAndSize, Damage::OtherPair, Damage::OtherSize, Damage::HeaderReserved,
-    Damage::HeaderCut, Damage::Padding, Damage::Unit, Damage::Reserved,
-    Damage::StructureLength, Damage::FrameLength, Damage::OtherLength, Damage::DataCount,
-    Damage::ExactRate, Damage::Kind, Damage::AnyByte, Damage::CutShort,
-    Damage::LooseEnd,
+    Damage::HeaderCut, Damage::Padding, Damage::OldPadding, Damage::Unit,
+    Damage::Reserved, Damage::StructureLength, Damage::FrameLength, Damage::OtherLength,
+    Damage::DataCount, Damage::ExactRate, Damage::Kind, Damage::AnyByte,
+    Damage::CutShort, Damage::LooseEnd,
 ];
 
 impl Damage {
@@ -184,6 +186,7 @@ impl Damage {
             Damage::OtherPair => &[3, 8, 9],
             Damage::HeaderCut => &[5],
             Damage::Padding => &[6],
+            Damage::OldPadding => &[1, 2, 5, 6],
             Damage::Unit => &[7],
             Damage::Reserved | Damage::HeaderReserved => &[8],
             Damage::StructureLength | Damage::FrameLength | Damage::OtherLength => &[9],
@@ -205,6 +208,7 @@ impl Damage {
             Damage::DataCount => 50,
             Damage::ExactRate => 57,
             Damage::Padding => rng.pick(&[50, 120, 121, 122, 123, foreign]),
+            Damage::OldPadding => rng.pick(&[120, 121, 122, 123, foreign, foreign]),
             _ => rng.pick(&[listed, listed, listed, foreign]),
         }
     }
@@ -234,13 +238,15 @@ impl Damage {
     }
 
     /// Can this very object be damaged so? Only some types and headers have the
-    /// field, only some sizes have padding, only one LIN message has an exact
-    /// rate, and most frames may have the other header's size.
+    /// field, only some sizes have padding, only odd ones had another, only one
+    /// LIN message has an exact rate, and most frames may have the other header's
+    /// size.
     fn fits(self, object: &[u8]) -> bool {
         let was = Sound::new(object, 0);
         let row = row(was.kind);
         match self {
-            Damage::Padding => !object.len().is_multiple_of(4),
+            Damage::Padding => padding(was.size) > 0,
+            Damage::OldPadding => matches!(padding(was.size), 1 | 3),
             Damage::WrapSize => row.is_none(),
             Damage::HeaderReserved | Damage::HeaderCut => {
                 row.is_some() && was.header == Header::Second
@@ -305,7 +311,7 @@ impl Damage {
             Damage::ExactRate => put(was.body(piece), 136, &wrong_rate(rng).to_le_bytes()),
             Damage::Kind => put(piece, 12, &other_kind(rng, was.kind).to_le_bytes()),
             Damage::AnyByte => piece[rng.below(piece.len())] ^= rng.nonzero(),
-            Damage::HeaderCut | Damage::CutShort | Damage::LooseEnd => {}
+            Damage::OldPadding | Damage::HeaderCut | Damage::CutShort | Damage::LooseEnd => {}
         }
     }
 }
@@ -387,7 +393,7 @@ fn wrong_size(rng: &mut Rng, was: &Sound) -> u32 {
 fn wrapping_size(rng: &mut Rng, start: usize) -> u32 {
     let wrapping = (rng.below(200) as u32).wrapping_sub(start as u32);
     if wrapping < 1 << 31 {
-        u32::MAX - rng.below(3) as u32
+        u32::MAX - rng.below(2) as u32
     } else {
         wrapping
     }
@@ -462,8 +468,9 @@ fn victim(rng: &mut Rng, damage: Damage) -> Vec<u8> {
 }
 
 /// A log of so many objects and a last one, then damaged in these ways; with
-/// the place of the damage: the damaged object's start, or where the log was
-/// cut off, or where the loose end begins.
+/// the place of the damage: the damaged object's start, or behind its padding
+/// where zero bytes go on, or where the log was cut off, or where the loose end
+/// begins.
 fn damaged_by(rng: &mut Rng, count: usize, sound: Vec<u8>, ways: &[Damage]) -> (Vec<u8>, usize) {
     let before = rng.below(count + 1);
     let mut log = sound_log(rng, before);
@@ -472,9 +479,16 @@ fn damaged_by(rng: &mut Rng, count: usize, sound: Vec<u8>, ways: &[Damage]) -> (
     for damage in ways {
         damage.befall(rng, &mut piece, &was);
     }
+    let mut place = was.start;
+    if ways.contains(&Damage::OldPadding) {
+        let whole = piece.len();
+        piece.resize(was.size.next_multiple_of(4) as usize, 0);
+        if piece.len() > whole {
+            place += whole;
+        }
+    }
     log.extend(piece);
     log.extend(sound_log(rng, count - before));
-    let mut place = was.start;
     if ways.contains(&Damage::LooseEnd) {
         place = log.len();
         let loose = rng.from_to(1, 15);
@@ -492,8 +506,8 @@ fn damaged_by(rng: &mut Rng, count: usize, sound: Vec<u8>, ways: &[Damage]) -> (
 }
 
 /// A log of so many objects and one more, damaged in this one way; with the
-/// place of the damage: the damaged object's start, or where the log was cut
-/// off, or where the loose end begins.
+/// place of the damage: the damaged object's start, or behind its padding where
+/// zero bytes go on, or where the log was cut off, or where the loose end begins.
 pub fn damaged_log_at(rng: &mut Rng, count: usize, damage: Damage) -> (Vec<u8>, usize) {
     let sound = victim(rng, damage);
     damaged_by(rng, count, sound, &[damage])

@@ -1,7 +1,8 @@
 //! What the tests share.
 #![allow(dead_code)]
 
-use mshelovat_reference::layout::Refusal;
+use mshelovat_reference::layout::{occupied, Refusal};
+use mshelovat_reference::programs::{desk, lister};
 
 /// The types whose sizes do not depend on a frame, with these sizes.
 pub const SIZES: [(u32, &[u32]); 7] = [
@@ -51,7 +52,7 @@ pub fn bare(kind: u32, size: u32) -> Vec<u8> {
     object.truncate(32);
     object[8..12].copy_from_slice(&size.to_le_bytes());
     object[12..16].copy_from_slice(&kind.to_le_bytes());
-    object.resize((size as usize).next_multiple_of(4), 0);
+    object.resize(occupied(size) as usize, 0);
     object
 }
 
@@ -122,4 +123,20 @@ pub fn slip(desk: u8, entries: &[(u32, u32, u32)]) -> Vec<u8> {
 /// Slips or objects end to end.
 pub fn joined(parts: &[Vec<u8>]) -> Vec<u8> {
     parts.concat()
+}
+
+/// Holds both programs to the answers of another reading of the papers; gives
+/// how many there are. The first line tells how the others are made up.
+pub fn shared_cases(cases: &str) -> usize {
+    let cases = cases.lines().skip(1);
+    let hold = |case: &str| {
+        let parts: Vec<&str> = case.split(" = ").collect();
+        let words: Vec<&str> = parts[0].split(' ').collect();
+        let (log, bundle) = (hex(words[1]), hex(words[2]));
+        let text = parts[1].replace('/', "\n") + "\n";
+        assert_eq!(lister(&log), text, "{}", words[0]);
+        let text = format!("{}\n", parts[2]);
+        assert_eq!(desk(Some(&log), Some(&bundle)), text, "{}", words[0]);
+    };
+    cases.map(hold).count()
 }
