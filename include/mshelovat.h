@@ -106,8 +106,8 @@ uint32_t mshelovat_read(const uint8_t *log, size_t log_length, size_t at, uint32
  * where it is too short: signature, sizes and reserved bytes are written as the layout has them. The record is read and
  * written under the second header where the object says header size 40 and version 2, else under the first, whatever it
  * says there. Lend one number.
- * 0: out[0] is how many bytes were used, padding included: the size and what that leaves over when divided by four, so
- * that three bytes more than the size are always room enough.
+ * 0: out[0] is how many bytes were used: the size of the object as it is written, and its padding, which is what that
+ * size leaves over when divided by four. Three bytes more than that size are always room enough.
  * 7 or 9: the record is refused; 11: the bytes are no foreign object; 10: `bytes` has no room; out[0] is 0, and `bytes`
  * is as it was. Where no number is lent the answer is 10 too, and nothing is written. */
 uint32_t mshelovat_write(const uint8_t *object, size_t object_length, uint8_t *bytes, size_t bytes_length,
