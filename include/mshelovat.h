@@ -7,6 +7,10 @@
  * too few numbers were lent, or too few bytes: where too few numbers, nothing is written; MSHELOVAT_DONE is the log's
  * end, MSHELOVAT_OTHER an object of another type.
  *
+ * The place of 1 to 9 is the byte of the log at fault: the first of the wrong field, or the first wrong one of reserved
+ * bytes and padding; for 1 it is the position, for 5 the log's length (docs/FORMAT.md, "Order and place"). The position
+ * to go on from is the one before. On writing the place is 0.
+ *
  * No call asks for more than what C itself asks: a pointer is not null and its bytes are readable (what is lent to be
  * written, writable) for the call's time, also where the length is 0; lent numbers and entries stand on 8 bytes; and
  * what a call writes lies apart from all else that is handed to it. No call keeps a pointer, allocates, or writes
@@ -27,6 +31,9 @@ enum { MSHELOVAT_START, MSHELOVAT_SIZE, MSHELOVAT_KIND, MSHELOVAT_NEXT, MSHELOVA
 
 /* How many numbers an entry of mshelovat_list has, in the same order: start, size, type. */
 enum { MSHELOVAT_ENTRY = 3 };
+
+/* The places of mshelovat_list's values. */
+enum { MSHELOVAT_LISTED, MSHELOVAT_GO_ON, MSHELOVAT_PLACE, MSHELOVAT_LIST };
 
 /* No line has more bytes than this, CR LF included: lent so many, mshelovat_line and mshelovat_line_at have room. */
 enum { MSHELOVAT_LONGEST_LINE = 134 };
@@ -73,15 +80,15 @@ uint32_t mshelovat_walk(const uint8_t *log, size_t log_length, uint64_t *out, si
 /* The object at position `at`, which may be any number. Lend four.
  * 0: out is its start, its size without padding, its type, and the position behind its padding.
  * MSHELOVAT_DONE: `at` is exactly the log's end; out is at, 0, 0, at.
- * 1 to 9: the object is refused; out is its place, 0, 0, at. */
+ * 1 to 9: the object is refused; out is the byte at fault, 0, 0, at. */
 uint32_t mshelovat_step(const uint8_t *log, size_t log_length, size_t at, uint64_t *out, size_t out_count);
 
 /* The objects from position `at` on, three numbers each: start, size without padding, type. `entries_count` counts
- * numbers; one or two behind the last whole entry are left alone. Lend two numbers in out: how many objects were
- * listed, and the position where the next call goes on.
+ * numbers; one or two behind the last whole entry are left alone. Lend three numbers in out: how many objects were
+ * listed, the position where the next call goes on, and the place of a refusal, which is 0 where there is none.
  * 0: there is no room for another object, whether or not one is there.
  * MSHELOVAT_DONE: all objects up to the log's end are listed.
- * 1 to 9: the object at the position, out[1], is refused; those before it are listed. */
+ * 1 to 9: the object at that position is refused, and out[2] is the byte at fault; those before it are listed. */
 uint32_t mshelovat_list(const uint8_t *log, size_t log_length, size_t at, uint64_t *entries, size_t entries_count,
                         uint64_t *out, size_t out_count);
 
@@ -96,7 +103,7 @@ uint32_t mshelovat_check(const uint8_t *log, size_t log_length, const uint8_t *b
  * 0: out is its size and the position behind its padding.
  * MSHELOVAT_OTHER: an object of another type was let through; out is 0 and the position behind its padding.
  * MSHELOVAT_DONE: `at` is exactly the log's end; out is 0 and at.
- * 1 to 9: the object is refused; out is its place and at.
+ * 1 to 9: the object is refused; out is the byte at fault and at.
  * MSHELOVAT_ROOM: fewer than two numbers, or `bytes` is shorter than the object; nothing is written to either. */
 uint32_t mshelovat_read(const uint8_t *log, size_t log_length, size_t at, uint32_t kind, uint8_t *bytes,
                         size_t bytes_length, uint64_t *out, size_t out_count);
@@ -125,7 +132,7 @@ uint32_t mshelovat_line(const uint8_t *object, size_t object_length, uint8_t *by
 /* The line of the object at position `at`, which may be any number, written to the front of `bytes`. Lend two numbers.
  * 0: out is how many bytes the line has, 0 for an object of another type, and the position behind the object's padding.
  * MSHELOVAT_DONE: `at` is exactly the log's end; out is 0 and at.
- * 1 to 9: the object is refused; out is its place and at.
+ * 1 to 9: the object is refused; out is the byte at fault and at.
  * MSHELOVAT_ROOM: `bytes` is shorter than the line; out is 0 and at, and `bytes` is as it was. Where fewer than two
  * numbers are lent the answer is the same, and nothing is written to either. */
 uint32_t mshelovat_line_at(const uint8_t *log, size_t log_length, size_t at, uint8_t *bytes, size_t bytes_length,

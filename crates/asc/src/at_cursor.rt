@@ -11,7 +11,7 @@ pub enum LineAt {
     Line(usize),
     // The position is exactly the log's end.
     Done,
-    // 1 to 9 and the object's start, for 1 the position; or 10 at place 0.
+    // 1 to 9 and the byte at fault, as a step tells them; or 10 at place 0.
     Refused { number: u32, place: usize },
 }
 

@@ -4,6 +4,8 @@ ghost use Prim.Native.Nat.{_+_, _≤_};
 ghost use lib.ListN.{length};
 ghost use Rattle.fields.specs.Written.{Wrote};
 ghost use Rattle.fields.specs.Slots.{bytesOf};
+ghost use Rattle.fields.specs.Rules.{shifted};
+ghost use Rattle.fields.specs.Wrong.{wrongByte};
 ghost use Rattle.headers.specs.Form.{bodyFault};
 ghost use Rattle.can.specs.Tables.{overloadSlots};
 ghost use Rattle.can.specs.Fields.{overloadOf, overloadFormat};
@@ -19,6 +21,14 @@ pub fn overload_fault(b: &[u8]) -> u32
     ensures { λ r. ⌜ r ≡ bodyFault overloadFormat (now (b .entry)) ⌝ }
 {
     headers::first(8, fields::all_zero(b, 2, 2), 0)
+}
+
+// The place of the first reserved byte that is not zero, or 0, in an object whose header is so long.
+pub fn overload_wrong_byte(o: &[u8], head: usize) -> usize
+    requires { ⌜ head + 4 ≤ length (now o) ⌝ }
+    ensures { λ r. ⌜ r ≡ wrongByte (shifted head (overloadFormat .gaps)) (now (o .entry)) 0 ⌝ }
+{
+    fields::wrong_byte(o, head + 2, 2, 0)
 }
 
 // The overload of a header and a body.

@@ -6,6 +6,7 @@ ghost use lib.ListN.{length};
 ghost use Rattle.fields.specs.Rules.{allRight};
 ghost use Rattle.fields.specs.Written.{Wrote};
 ghost use Rattle.fields.specs.Slots.{number, bytesOf};
+ghost use Rattle.fields.specs.Wrong.{wrongField};
 ghost use Rattle.headers.specs.HeadTests.{first};
 ghost use Rattle.ethernet.specs.Fields.{structureLength, longestFrame, lengthRules};
 ghost use Rattle.ethernet.specs.Tables.{originSlots, transmissionSlots, eventSlots};
@@ -18,6 +19,16 @@ pub fn length_fault(b: &[u8]) -> u32
     let structure = fields::get16(b, 0) as usize == Frame::LENGTH;
     let frame = fields::get16(b, 22) as usize == b.len() - Frame::LENGTH;
     headers::first(9, structure, headers::first(9, frame, 0))
+}
+
+// The place in a body of the first of the two lengths that is wrong, structure length or frame length; else 0.
+pub fn wrong_length(b: &[u8]) -> usize
+    requires { ⌜ structureLength ≤ length (now b) ⌝ }
+    ensures { λ r. ⌜ r ≡ wrongField (lengthRules (now (b .entry))) ⌝ }
+{
+    let structure = fields::get16(b, 0) as usize == Frame::LENGTH;
+    let frame = fields::get16(b, 22) as usize == b.len() - Frame::LENGTH;
+    fields::wrong_field(structure, 0, fields::wrong_field(frame, 22, 0))
 }
 
 fn put_origin(out: &mut [u8], at: usize, r: Frame)

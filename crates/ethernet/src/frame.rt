@@ -6,6 +6,8 @@ ghost use Prim.Native.Nat.{_+_, _≤_};
 ghost use lib.ListN.{length, drop};
 ghost use Rattle.fields.specs.Written.{Wrote};
 ghost use Rattle.fields.specs.Slots.{bytesOf};
+ghost use Rattle.fields.specs.Rules.{shifted};
+ghost use Rattle.fields.specs.Wrong.{wrongByte};
 ghost use Rattle.headers.specs.Form.{bodyFault};
 ghost use Rattle.ethernet.specs.Fields.{structureLength, longestFrame, frameOf, frameFormat};
 ghost use Rattle.ethernet.specs.Tables.{frameSlots};
@@ -34,6 +36,14 @@ pub fn frame_fault(b: &[u8]) -> u32
 {
     let reserved = fields::all_zero(b, 28, 4);
     headers::first(8, reserved, length_fault(b))
+}
+
+// The place of the first reserved byte that is not zero, or 0, in an object whose header is so long.
+pub fn frame_wrong_byte(o: &[u8], head: usize) -> usize
+    requires { ⌜ head + structureLength ≤ length (now o) ⌝ }
+    ensures { λ r. ⌜ r ≡ wrongByte (shifted head (frameFormat .gaps)) (now (o .entry)) 0 ⌝ }
+{
+    fields::wrong_byte(o, head + 28, 4, 0)
 }
 
 // The frame of a header and a body; `frame_view` gives its bytes.

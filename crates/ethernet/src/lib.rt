@@ -5,9 +5,11 @@ mod frame;
 mod frame_error;
 mod status;
 
+pub use event::wrong_length;
 pub use frame::Frame;
 pub use frame::frame_fault;
 pub use frame::frame_view;
+pub use frame::frame_wrong_byte;
 pub use frame::get_frame;
 pub use frame::put_frame;
 pub use frame_error::FrameError;

@@ -1,11 +1,12 @@
-// Runs document 01's examples of reading and writing that are not marked, and those of W-202 and W-204, over the proved
-// calls, and prints what came out: a line an example. Those of slips, frames and foreign objects stand in
+// Runs document 01's examples of reading and writing that are not marked, and those of W-202, W-204 and W-205, over the
+// proved calls, and prints what came out: a line an example. Those of slips, frames and foreign objects stand in
 // `slip_examples`.
 mod left_over;
 mod reading;
 mod samples;
 mod second_header;
 mod tell;
+mod which_byte;
 mod writing;
 
 fn main() {
@@ -33,4 +34,10 @@ fn main() {
     left_over::three_over();
     left_over::rooms();
     left_over::python_can();
+    which_byte::fields();
+    which_byte::reserved();
+    which_byte::both_reserved();
+    which_byte::padding();
+    which_byte::lengths();
+    which_byte::counts();
 }

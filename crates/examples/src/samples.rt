@@ -3,7 +3,7 @@ use headers::Header;
 use headers::Origin;
 use outcomes::Written;
 ghost use mathlib.Core.Path.{_≡_};
-ghost use Prim.Native.Nat.{_≤_};
+ghost use Prim.Native.Nat.{_≤_, _<_};
 ghost use lib.ListN.{length};
 
 // The overload of document 01's M2.
@@ -13,6 +13,29 @@ pub fn overload() -> [u8; 36]
     let mut log = [0u8; 36];
     let header = header(2);
     can_records::write_overload(can::Overload { header, channel: 1 }, &mut log);
+    log
+}
+
+// The overload of W-202: status 1, 1,000,000 ns, original time stamp 5, channel 1.
+pub fn second_overload() -> [u8; 44]
+    ensures { λ r. ⌜ 44 ≡ length r ⌝ }
+{
+    let mut log = [0u8; 44];
+    let header = second();
+    can_records::write_overload(can::Overload { header, channel: 1 }, &mut log);
+    log
+}
+
+// M2 twice, one byte set to another.
+pub fn twice_with(at: usize, byte: u8) -> [u8; 72]
+    requires { ⌜ at < 72 ⌝ }
+    ensures { λ r. ⌜ 72 ≡ length r ⌝ }
+{
+    let mut log = [0u8; 72];
+    let overload = overload();
+    fields::put_bytes(&mut log, 0, &overload);
+    fields::put_bytes(&mut log, 36, &overload);
+    fields::put8(&mut log, at, byte);
     log
 }
 

@@ -1,21 +1,9 @@
 // Examples of W-202: objects and records under the second header, and which test comes first.
 use crate::samples;
 use crate::tell;
-ghost use mathlib.Core.Path.{_≡_};
-ghost use lib.ListN.{length};
-
-// The overload of W-202: status 1, 1,000,000 ns, original time stamp 5, channel 1.
-fn overload() -> [u8; 44]
-    ensures { λ r. ⌜ 44 ≡ length r ⌝ }
-{
-    let mut log = [0u8; 44];
-    let header = samples::second();
-    can_records::write_overload(can::Overload { header, channel: 1 }, &mut log);
-    log
-}
 
 pub fn sizes() {
-    let mut log = overload();
+    let mut log = samples::second_overload();
     tell::walk(b"an overload under the second header: ", &log);
     tell::step(b"the same, by a step: ", &log, 0);
     log[8] = 36;
@@ -31,7 +19,7 @@ pub fn sizes() {
 }
 
 pub fn pairs() {
-    let mut log = overload();
+    let mut log = samples::second_overload();
     log[6] = 1;
     tell::walk(b"an overload with header size 40 and version 1: ", &log);
     log[4] = 33;
@@ -51,7 +39,7 @@ pub fn pairs() {
 }
 
 pub fn reserved() {
-    let mut log = overload();
+    let mut log = samples::second_overload();
     log[21] = 1;
     tell::walk(b"an overload whose reserved byte 21 is 1: ", &log);
     log[16] = 3;

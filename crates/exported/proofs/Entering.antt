@@ -10,7 +10,7 @@ use lib.Seq.{sets, length-sets}
 use Rattle.objects.specs.declared.Answer.the-variants.{Object, Done, Refused}
 use Rattle.objects.specs.Next.{nextAt}
 use Rattle.objects.specs.Stepping.{Met, metFrom}
-use Rattle.exported.specs.Lists.{Listing, listed, numberFor, numbers, listOf, listReply}
+use Rattle.exported.specs.Lists.{Listing, listed, numberFor, placeFor, numbers, listOf, listReply}
 use Rattle.exported.specs.Replies.{reply, lent, Filled}
 use Rattle.exported.proofs.Lending.{unfilled, filled}
 
@@ -23,7 +23,7 @@ entered xs i a b c =
 
 -- what is met behind n objects, listed in xs
 abbrev pub after : ℕ → List ℕ → Met → Listing
-after n xs m = listed (numberFor (m .ended)) (n + length (m .objects)) (m .at) (sets xs (3 * n) (numbers (m .objects)))
+after n xs m = listed (numberFor (m .ended)) (n + length (m .objects)) (m .at) (placeFor (m .ended)) (sets xs (3 * n) (numbers (m .objects)))
 
 pub record Entering (s : List ℕ) (from : ℕ) (xs ys : List ℕ) (at n : ℕ) : Type 0 where
   pub left : ℕ
@@ -54,25 +54,25 @@ module _ (s : List ℕ) (from : ℕ) (xs ys : List ℕ) (at n : ℕ) where
           left = left;
           all = omega (arith, e);
           long = length-sets ys (3 * n) (start ∷ size ∷ kind ∷ []) ∙ l;
-          same = (λ i. listed (numberFor (m .ended)) (c i) (m .at) (sets zs (p i) (numbers (m .objects)))) ∙ rw f at q;
+          same = (λ i. listed (numberFor (m .ended)) (c i) (m .at) (placeFor (m .ended)) (sets zs (p i) (numbers (m .objects)))) ∙ rw f at q;
         }
 
-    done : (left : ℕ) → n + left ≡ length xs / 3 → after n ys (metFrom left s at) ≡ listOf s from xs → nextAt s at .answer ≡ Done → listed 100 n at ys ≡ listOf s from xs
+    done : (left : ℕ) → n + left ≡ length xs / 3 → after n ys (metFrom left s at) ≡ listOf s from xs → nextAt s at .answer ≡ Done → listed 100 n at 0 ys ≡ listOf s from xs
     done zero e q f = absurd (omega arith)
-    done (suc left) e q f = (λ i. listed 100 (whole i) at ys) ∙ rw f at q
+    done (suc left) e q f = (λ i. listed 100 (whole i) at 0 ys) ∙ rw f at q
 
     refused : (left number place : ℕ) → n + left ≡ length xs / 3 → after n ys (metFrom left s at) ≡ listOf s from xs → nextAt s at .answer ≡ Refused number place
-        → listed number n place ys ≡ listOf s from xs
+        → listed number n at place ys ≡ listOf s from xs
     refused zero number place e q f = absurd (omega arith)
-    refused (suc left) number place e q f = (λ i. listed number (whole i) place ys) ∙ rw f at q
+    refused (suc left) number place e q f = (λ i. listed number (whole i) at place ys) ∙ rw f at q
 
-  full : (left : ℕ) → n + left ≡ length xs / 3 → after n ys (metFrom left s at) ≡ listOf s from xs → length xs / 3 ≤ n → listed 0 n at ys ≡ listOf s from xs
-  full zero e q h = (λ i. listed 0 (whole i) at ys) ∙ q
+  full : (left : ℕ) → n + left ≡ length xs / 3 → after n ys (metFrom left s at) ≡ listOf s from xs → length xs / 3 ≤ n → listed 0 n at 0 ys ≡ listOf s from xs
+  full zero e q h = (λ i. listed 0 (whole i) at 0 ys) ∙ q
   full (suc left) e q h = absurd (omega arith)
 
   -- the ways out of the loop
   module _ (w : Entering s from xs ys at n) where
-    pub list-full : length xs / 3 ≤ n → listed 0 n at ys ≡ listOf s from xs
+    pub list-full : length xs / 3 ≤ n → listed 0 n at 0 ys ≡ listOf s from xs
     list-full h = full (w .left) (w .all) (w .same) h
 
     module _ (h : n < length xs / 3) where
@@ -80,10 +80,10 @@ module _ (s : List ℕ) (from : ℕ) (xs ys : List ℕ) (at n : ℕ) where
           → Entering s from xs (sets ys (3 * n) (start ∷ size ∷ kind ∷ [])) (nextAt s at .next .at) (n + 1)
       entering-more f = on (w .long) h (w .left) _ _ _ (w .all) (w .same) f
 
-      pub list-done : nextAt s at .answer ≡ Done → listed 100 n at ys ≡ listOf s from xs
+      pub list-done : nextAt s at .answer ≡ Done → listed 100 n at 0 ys ≡ listOf s from xs
       list-done f = done (w .long) h (w .left) (w .all) (w .same) f
 
-      pub list-refused : {number place : ℕ} → nextAt s at .answer ≡ Refused number place → listed number n place ys ≡ listOf s from xs
+      pub list-refused : {number place : ℕ} → nextAt s at .answer ≡ Refused number place → listed number n at place ys ≡ listOf s from xs
       list-refused f = refused (w .long) h (w .left) _ _ (w .all) (w .same) f
 
       -- an entry has room
@@ -92,9 +92,9 @@ module _ (s : List ℕ) (from : ℕ) (xs ys : List ℕ) (at n : ℕ) where
 
 -- the whole call, once the list is made
 module _ (s : List ℕ) (at : ℕ) (xs us : List ℕ) where
-  pub unlisted : length us < 2 → Filled (listReply (listOf s at xs)) (listOf s at xs .entries) 10 xs xs us us
+  pub unlisted : length us < 3 → Filled (listReply (listOf s at xs)) (listOf s at xs .entries) 10 xs xs us us
   unlisted h = unfilled h
 
-  pub all-listed : {number count on r : ℕ} {ys vs : List ℕ} → 2 ≤ length us → listed number count on ys ≡ listOf s at xs → reply r vs ≡ lent (reply number (count ∷ on ∷ [])) us
+  pub all-listed : {number count on place r : ℕ} {ys vs : List ℕ} → 3 ≤ length us → listed number count on place ys ≡ listOf s at xs → reply r vs ≡ lent (reply number (count ∷ on ∷ place ∷ [])) us
       → Filled (listReply (listOf s at xs)) (listOf s at xs .entries) r xs ys us vs
   all-listed h e told = filled h (ap (λ (l : Listing). l .entries) e) (told ∙ ap (λ (l : Listing). lent (listReply l) us) e)

@@ -11,6 +11,6 @@ use Rattle.objects.proofs.Entries.{log-met, entries-many}
 use Rattle.exported.specs.Lists.{listed, numbers, listOf}
 
 pub list-exact : (s : List ℕ) (os : List (List ℕ)) → LogOf s os → (xs : List ℕ) → length os < length xs / 3
-    → listOf s 0 xs ≡ listed 100 (length os) (length s) (sets xs 0 (numbers (entriesOf 0 os)))
+    → listOf s 0 xs ≡ listed 100 (length os) (length s) 0 (sets xs 0 (numbers (entriesOf 0 os)))
 unfolding listOf
-list-exact s os l xs h = rw (log-met (length xs / 3) l h) (ap (λ (n : ℕ). listed 100 n (length s) (sets xs 0 (numbers (entriesOf 0 os)))) (entries-many 0 os))
+list-exact s os l xs h = rw (log-met (length xs / 3) l h) (ap (λ (n : ℕ). listed 100 n (length s) 0 (sets xs 0 (numbers (entriesOf 0 os)))) (entries-many 0 os))

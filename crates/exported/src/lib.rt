@@ -52,6 +52,19 @@ fn tell_two(out: &mut [u64], number: u32, a: usize, b: usize) -> u32
     number
 }
 
+// Answers this number, and two values and a place into the lent slice.
+fn tell_three(out: &mut [u64], number: u32, a: usize, b: usize, place: usize) -> u32
+    ensures { λ r. ⌜ reply r (now (out .exit)) ≡ lent (reply number (a ∷ b ∷ place ∷ [])) (now (out .entry)) ⌝ }
+{
+    if out.len() < 3 {
+        return ROOM;
+    }
+    out[0] = a as u64;
+    out[1] = b as u64;
+    out[2] = place as u64;
+    number
+}
+
 // Answers this number, and four values into the lent slice.
 fn tell_four(out: &mut [u64], number: u32, a: usize, b: usize, c: u32, d: usize) -> u32
     ensures { λ r. ⌜ reply r (now (out .exit)) ≡ lent (reply number (a ∷ b ∷ c ∷ d ∷ [])) (now (out .entry)) ⌝ }

@@ -1,7 +1,7 @@
 // The objects of a log from a position on, listed in a lent slice.
 use crate::DONE;
 use crate::ROOM;
-use crate::tell_two;
+use crate::tell_three;
 use objects::Answer;
 use objects::Cursor;
 ghost use mathlib.Core.Path.{_≡_};
@@ -12,11 +12,24 @@ ghost use lib.Seq.{sets};
 ghost use Rattle.exported.specs.Replies.{Filled};
 ghost use Rattle.exported.specs.Lists.{listed, listOf, listReply};
 
-// The number to be told, how many objects were listed, and the position where the next call goes on.
+// The number to be told, how many objects were listed, the position where the next call goes on, and the place of a
+// refusal, or 0.
 struct Listed {
     number: u32,
     count: usize,
     at: usize,
+    place: usize,
+}
+
+fn ended(number: u32, count: usize, at: usize, place: usize) -> Listed
+    ensures { λ r. ⌜ r ≡ record { number = number; count = count; at = at; place = place } ⌝ }
+{
+    Listed {
+        number,
+        count,
+        at,
+        place,
+    }
 }
 
 // Lists one object at a place of the slice.
@@ -31,7 +44,7 @@ fn enter(entries: &mut [u64], i: usize, start: usize, size: usize, kind: u32)
 
 // Lists the objects from the cursor on, until there is no room, the log ends, or an object is refused.
 fn list(log: &[u8], at: usize, entries: &mut [u64]) -> Listed
-    ensures { λ r. ⌜ listed (r .number) (r .count) (r .at) (now (entries .exit)) ≡ listOf (now (log .entry)) at (now (entries .entry)) ⌝ }
+    ensures { λ r. ⌜ listed (r .number) (r .count) (r .at) (r .place) (now (entries .exit)) ≡ listOf (now (log .entry)) at (now (entries .entry)) ⌝ }
 {
     let room = entries.len() / 3;
     let mut c = Cursor { at };
@@ -42,18 +55,10 @@ fn list(log: &[u8], at: usize, entries: &mut [u64]) -> Listed
         let Answer::Object { start, size, kind } = answer else {
             match answer {
                 Answer::Refused { number, place } => {
-                    return Listed {
-                        number,
-                        count: n,
-                        at: place,
-                    };
+                    return ended(number, n, c.at, place);
                 }
                 _ => {
-                    return Listed {
-                        number: DONE,
-                        count: n,
-                        at: c.at,
-                    };
+                    return ended(DONE, n, c.at, 0);
                 }
             }
         };
@@ -62,24 +67,20 @@ fn list(log: &[u8], at: usize, entries: &mut [u64]) -> Listed
         let next = step.next;
         c = next;
     }
-    Listed {
-        number: 0,
-        count: n,
-        at: c.at,
-    }
+    ended(0, n, c.at, 0)
 }
 
 // Lists the objects from a position on, three numbers each: start, size, type. 0 where there is no room for another
-// object, 100 at the log's end, or the refusal: each with how many were listed, and the position where the next call
-// goes on, which for a refusal is its place.
+// object, 100 at the log's end, or the refusal: each with how many were listed, the position where the next call goes
+// on, which for a refusal is where the refused object begins, and the place of the refusal, or 0.
 #[no_mangle]
 pub extern "C" fn mshelovat_list(log: &[u8], at: usize, entries: &mut [u64], out: &mut [u64]) -> u32
     ensures { λ r. ⌜ Filled (listReply (listOf (now (log .entry)) at (now (entries .entry)))) (listOf (now (log .entry)) at (now (entries .entry)) .entries)
         r (now (entries .entry)) (now (entries .exit)) (now (out .entry)) (now (out .exit)) ⌝ }
 {
-    if out.len() < 2 {
+    if out.len() < 3 {
         return ROOM;
     }
     let l = list(log, at, entries);
-    tell_two(out, l.number, l.count, l.at)
+    tell_three(out, l.number, l.count, l.at, l.place)
 }

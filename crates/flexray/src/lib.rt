@@ -7,3 +7,5 @@ pub use receive::counts_ok;
 pub use receive::get_receive;
 pub use receive::put_receive;
 pub use receive::receive_fault;
+pub use receive::receive_wrong_byte;
+pub use receive::receive_wrong_field;

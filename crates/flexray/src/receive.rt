@@ -4,6 +4,8 @@ ghost use Prim.Native.Nat.{_+_, _≤_};
 ghost use lib.ListN.{length};
 ghost use Rattle.fields.specs.Written.{Wrote};
 ghost use Rattle.fields.specs.Slots.{bytesOf};
+ghost use Rattle.fields.specs.Rules.{shifted};
+ghost use Rattle.fields.specs.Wrong.{wrongByte, wrongField};
 ghost use Rattle.headers.specs.Form.{bodyFault};
 ghost use Rattle.flexray.specs.Tables.{originSlots, slotSlots, controllerSlots, receiveSlots};
 ghost use Rattle.flexray.specs.Fields.{receiveOf, countsOk, receiveFormat};
@@ -52,6 +54,24 @@ pub fn receive_fault(b: &[u8]) -> u32
     let counts = counts_ok(fields::get16(b, 22), fields::get16(b, 24));
     let later = headers::first(8, reserved, headers::first(9, counts, 0));
     headers::first(8, after_direction, headers::first(8, after_cycle, later))
+}
+
+// The place of the first reserved byte that is not zero, or 0, in an object whose header is so long.
+pub fn receive_wrong_byte(o: &[u8], head: usize) -> usize
+    requires { ⌜ head + 298 ≤ length (now o) ⌝ }
+    ensures { λ r. ⌜ r ≡ wrongByte (shifted head (receiveFormat .gaps)) (now (o .entry)) 0 ⌝ }
+{
+    let reserved = fields::wrong_byte(o, head + 40, 4, 0);
+    let after_cycle = fields::wrong_byte(o, head + 27, 1, reserved);
+    fields::wrong_byte(o, head + 7, 1, after_cycle)
+}
+
+// The place in a body of the data count where it is above 254 or the byte count; else 0.
+pub fn receive_wrong_field(b: &[u8]) -> usize
+    requires { ⌜ 298 ≤ length (now b) ⌝ }
+    ensures { λ r. ⌜ r ≡ wrongField (receiveFormat .rules (now (b .entry))) ⌝ }
+{
+    fields::wrong_field(counts_ok(fields::get16(b, 22), fields::get16(b, 24)), 24, 0)
 }
 
 // The record of a header and a body.

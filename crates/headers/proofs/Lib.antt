@@ -11,3 +11,4 @@ pub mod Layouts
 pub mod Bodies
 pub mod Forms
 pub mod BodyTests
+pub mod Reserved

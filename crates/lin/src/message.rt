@@ -10,6 +10,8 @@ ghost use Prim.Native.Nat.{_+_, _≤_};
 ghost use lib.ListN.{length};
 ghost use Rattle.fields.specs.Written.{Wrote};
 ghost use Rattle.fields.specs.Slots.{bytesOf};
+ghost use Rattle.fields.specs.Rules.{shifted};
+ghost use Rattle.fields.specs.Wrong.{wrongByte, wrongField};
 ghost use Rattle.headers.specs.Form.{bodyFault};
 ghost use Rattle.lin.specs.Tail.{tail};
 ghost use Rattle.lin.specs.Tables.{synchSlots, descriptorSlots, statusSlots, machineSlots, messageSlots};
@@ -54,6 +56,23 @@ pub fn message_fault(b: &[u8]) -> u32
         early,
         headers::first(8, late, headers::first(9, rates, 0)),
     )
+}
+
+// The place of the first reserved byte that is not zero, or 0, in an object whose header is so long.
+pub fn message_wrong_byte(o: &[u8], head: usize) -> usize
+    requires { ⌜ head + 132 ≤ length (now o) ⌝ }
+    ensures { λ r. ⌜ r ≡ wrongByte (shifted head (messageFormat .gaps)) (now (o .entry)) 0 ⌝ }
+{
+    let late = fields::wrong_byte(o, head + 129, 3, 0);
+    fields::wrong_byte(o, head + 14, 2, late)
+}
+
+// The place in a body of the exact rate where it is wrong; else 0.
+pub fn message_wrong_field(b: &[u8]) -> usize
+    requires { ⌜ 132 ≤ length (now b) ⌝ }
+    ensures { λ r. ⌜ r ≡ wrongField (messageFormat .rules (now (b .entry))) ⌝ }
+{
+    fields::wrong_field(tail_ok(get_tail(b)), 136, 0)
 }
 
 // The message of a header and a body.

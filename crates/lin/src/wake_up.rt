@@ -5,6 +5,8 @@ ghost use Prim.Native.Nat.{_+_, _≤_};
 ghost use lib.ListN.{length};
 ghost use Rattle.fields.specs.Written.{Wrote};
 ghost use Rattle.fields.specs.Slots.{bytesOf};
+ghost use Rattle.fields.specs.Rules.{shifted};
+ghost use Rattle.fields.specs.Wrong.{wrongByte};
 ghost use Rattle.headers.specs.Form.{bodyFault};
 ghost use Rattle.lin.specs.Tables.{wakeUpSlots};
 ghost use Rattle.lin.specs.Fields.{wakeUpOf, wakeUpFormat};
@@ -27,6 +29,15 @@ pub fn wake_up_fault(b: &[u8]) -> u32
     let early = fields::all_zero(b, 14, 2);
     let late = fields::all_zero(b, 19, 1);
     headers::first(8, early, headers::first(8, late, 0))
+}
+
+// The place of the first reserved byte that is not zero, or 0, in an object whose header is so long.
+pub fn wake_up_wrong_byte(o: &[u8], head: usize) -> usize
+    requires { ⌜ head + 20 ≤ length (now o) ⌝ }
+    ensures { λ r. ⌜ r ≡ wrongByte (shifted head (wakeUpFormat .gaps)) (now (o .entry)) 0 ⌝ }
+{
+    let late = fields::wrong_byte(o, head + 19, 1, 0);
+    fields::wrong_byte(o, head + 14, 2, late)
 }
 
 // The wake-up of a header and a body.

@@ -24,7 +24,7 @@ unfolding listingOf
 listed s os w = ap listingBy (log-met-all w) ∙ ap (λ (n : ℕ). linesOf (entriesOf 0 os) ++ endLine (length s) n) (entries-many 0 os)
 
 -- objects, and behind them what is refused
-pub listed-before : (s : List ℕ) (os : List (List ℕ)) (k p : ℕ) → LogOf (take p s) os → p ≤ length s → nextAt s p .answer ≡ Refused k p
+pub listed-before : (s : List ℕ) (at : ℕ) (os : List (List ℕ)) (k p : ℕ) → LogOf (take at s) os → at ≤ length s → nextAt s at .answer ≡ Refused k p
     → listingOf s ≡ linesOf (entriesOf 0 os) ++ refusedLine k p
 unfolding listingOf
-listed-before s os k p w l e = ap listingBy (refused-behind s os k p w l e)
+listed-before s at os k p w l e = ap listingBy (refused-behind s at os k p w l e)

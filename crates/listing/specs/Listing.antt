@@ -18,7 +18,7 @@ linesOf (o ∷ os) = objectLine (o .start) (o .size) (o .kind) ++ linesOf os
 -- the last line, behind n objects, by how the stepping ended and where
 abbrev pub lastLine : Ended → ℕ → ℕ → List ℕ
 lastLine atEnd n at = endLine at n
-lastLine (refused number) n at = refusedLine number at
+lastLine (refused number place) n at = refusedLine number place
 lastLine noStepLeft n at = []
 
 unfoldable pub listingOf : List ℕ → List ℕ

@@ -1,4 +1,5 @@
--- 01, "Marked examples": M1 to M14, M3 to M5 as W-204 has them, a row for each thing that an example says.
+-- 01, "Marked examples": M1 to M14, M3 to M5 as W-204 has them, a row for each thing that an example says; places as
+-- W-205 has them.
 -- `marked-examples` of proofs/Marked: every reply is the one told.
 use Prim.Native.Nat.{ℕ}
 use Prim.Native.String.{String}
@@ -39,13 +40,13 @@ marked =
     ∷ row "M2: 36 bytes, no padding" (next m2 0) (object 0 36 3 36)
     ∷ row "M2: an overload, channel 1, 1,000,000 ns" (overload m2 0) (channel 1 2 1000000)
     ∷ row "M3: a frame of 61 bytes has size 125 and occupies 126" (next m3 0) (object 0 125 120 126)
-    ∷ row "M4: cut to 125" (walk (take 125 m3)) (refused 5 0)
-    ∷ row "M5: last padding byte 1" (walk (set m3 125 1)) (refused 6 0)
-    ∷ row "M6: M2 with unit 0 and byte 34 set to 1" (walk (set (set m2 16 0) 34 1)) (refused 7 0)
-    ∷ row "M7: only byte 34" (walk (set m2 34 1)) (refused 8 0)
-    ∷ row "M8: M2 with size 40" (walk (set m2 8 40)) (refused 3 0)
+    ∷ row "M4: cut to 125" (walk (take 125 m3)) (refused 5 125)
+    ∷ row "M5: last padding byte 1" (walk (set m3 125 1)) (refused 6 125)
+    ∷ row "M6: M2 with unit 0 and byte 34 set to 1" (walk (set (set m2 16 0) 34 1)) (refused 7 16)
+    ∷ row "M7: only byte 34" (walk (set m2 34 1)) (refused 8 34)
+    ∷ row "M8: M2 with size 40" (walk (set m2 8 40)) (refused 3 8)
     ∷ row "M9: foreign type 9999, size and header size 16" (walk m9) (objects 1)
-    ∷ row "M10: header size 17" (walk (set m9 4 17)) (refused 4 0)
+    ∷ row "M10: header size 17" (walk (set m9 4 17)) (refused 4 4)
     ∷ row "M11: with log M2 M2" (check (m2 ++ m2) m11) (accepted 2)
     ∷ row "M12: the same and then desk 2 with the second entry alone" (check (m2 ++ m2) (m11 ++ hex "0000000E 01 02 00000024 00000024 00000003")) (refused 26 36)
     ∷ row "M13: empty bundle" (check (m2 ++ m2) []) (refused 27 0)

@@ -6,6 +6,9 @@ pub mod Steps
 pub mod Standing
 pub mod Rows
 pub mod Refusals
+pub mod FieldBounds
+pub mod PlaceLaws
+pub mod WhichByte
 pub mod TwoHeaders
 pub mod Walks
 pub mod Entries

@@ -1,6 +1,7 @@
 pub mod Kinds
 pub mod Table
 pub mod Next
+pub mod Places
 pub mod Walk
 pub mod Replies
 pub mod Logs

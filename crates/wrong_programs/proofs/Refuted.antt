@@ -11,8 +11,10 @@ use lib.Dec.{eqb}
 use Rattle.fields.specs.Numbers.{val, num, big, nums, allZero}
 use Rattle.fields.specs.Digits.{le}
 use Rattle.fields.specs.Slots as slots
+use Rattle.fields.specs.Wrong.{leading, wrongIn}
 use Rattle.fields.proofs.Zeros.{both-true}
 use Rattle.headers.specs.Format.{padding, isFirst, isSecond, lengthAt, originAt, headerOf, unitOk, headerBlank}
+use Rattle.headers.specs.TypeFormat.{reservedOf}
 use Rattle.headers.specs.Types.{typeList}
 use Rattle.headers.specs.Rows.{rowIn, allowed}
 use Rattle.headers.specs.Header as header
@@ -27,7 +29,8 @@ use Rattle.objects.specs.declared.Walked.{Walked}
 use Rattle.objects.specs.declared.Walked.the-variants as walked
 use Rattle.objects.specs.Kinds.{find}
 use Rattle.objects.specs.Items.{bytesOf, padded}
-use Rattle.objects.specs.Next.{faultOf, answered, nextAt}
+use Rattle.objects.specs.Faults.{gapsOf}
+use Rattle.objects.specs.Next.{faultOf, placeIn, answered, nextAt}
 use Rattle.objects.specs.Stepping.{metAt}
 use Rattle.objects.specs.Walk.{walkOf}
 use Rattle.outcomes.specs.declared.Written.the-variants as written
@@ -115,7 +118,7 @@ refuted (w ∷ ws) e =
     (differ (w .tried) (not-true _ (h .0)), refuted ws (h .1))
 
 computed : noneSame wrongs ≡ true
-unfolding noneSame same wrongs m2 m9 m11 m12 seventeen nineteen unclean wrapping lin168 second otherSize otherType strayAndTwice paddedSize hex walkOf metAt nextAt answered faultOf find isFirst isSecond lengthAt originAt headerOf unitOk headerBlank typeList rowIn allowed pairOk lengthFits first padding num val nums le allZero lookAt recordIn recordAt overloadOf tailOf messageOf header.object header.lengthBy header.headerBy header.head slots.bytesOf overloadSlots bytesOf refusalOf checkOf cutOf cut.faultOf shapeOk big troubleOf
+unfolding noneSame same wrongs m2 m9 m11 m12 seventeen nineteen unclean wrapping lin168 second otherSize otherType strayAndTwice paddedSize hex walkOf metAt nextAt answered faultOf placeIn gapsOf reservedOf wrongIn leading find isFirst isSecond lengthAt originAt headerOf unitOk headerBlank typeList rowIn allowed pairOk lengthFits first padding num val nums le allZero lookAt recordIn recordAt overloadOf tailOf messageOf header.object header.lengthBy header.headerBy header.head slots.bytesOf overloadSlots bytesOf refusalOf checkOf cutOf cut.faultOf shapeOk big troubleOf
 computed = refl
 
 pub all-refuted : AllRefuted wrongs

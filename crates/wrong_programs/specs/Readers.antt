@@ -6,24 +6,32 @@ use mathlib.Core.List.{List, [], _∷_, _++_}
 use lib.ListN.{length, take, drop}
 use lib.Dec.{eqb, leb}
 use Rattle.fields.specs.Numbers.{num}
-use Rattle.headers.specs.Format.{extent, sizeAt, kindAt, headerBlank}
+use Rattle.fields.specs.Rules.{shifted}
+use Rattle.fields.specs.Wrong.{wrongByte}
+use Rattle.headers.specs.Format.{extent, sizeAt, kindAt, firstLength, secondAt, lengthAt, headerGaps, headerBlank}
 use Rattle.headers.specs.Rows.{rowOf, listed, allowed}
 use Rattle.objects.specs.declared.Step.{Step}
 use Rattle.objects.specs.declared.Answer.{Answer}
 use Rattle.objects.specs.declared.Answer.the-variants.{Object, Done, Refused}
 use Rattle.objects.specs.declared.Walked.{Walked}
 use Rattle.objects.specs.declared.Walked.the-variants as walked
+use Rattle.objects.specs.Faults.{gapsOf}
 use Rattle.objects.specs.Table.{Row, row, table, firstOf}
-use Rattle.objects.specs.Next.{cursor, faultOf}
+use Rattle.objects.specs.Next.{cursor, faultOf, placeIn}
 use Rattle.objects.specs.Walk.{walkOf}
 
--- a step by its own number (0: nothing is at fault) and its own next place; at the log's end it is done
-abbrev pub answer : List ℕ → ℕ → ℕ → ℕ → Step
-answer t at next zero = record { answer = Object at (sizeAt t) (kindAt t); next = cursor next }
-answer t at next (suc n) = record { answer = Refused (suc n) at; next = cursor at }
+-- a step by its own number (0: nothing is at fault), its own place of a number and its own next position; at the log's
+-- end it is done
+abbrev pub answer : (ℕ → List ℕ → ℕ) → List ℕ → ℕ → ℕ → ℕ → Step
+answer place t at next zero = record { answer = Object at (sizeAt t) (kindAt t); next = cursor next }
+answer place t at next (suc n) = record { answer = Refused (suc n) (at + place (suc n) t); next = cursor at }
 
+abbrev pub stepWith : (ℕ → List ℕ → ℕ) → (List ℕ → ℕ → ℕ) → (List ℕ → ℕ → ℕ) → List ℕ → ℕ → Step
+stepWith place fault next s at = cond (eqb at (length s)) (record { answer = Done; next = cursor at }) (answer place (drop at s) at (next s at) (fault s at))
+
+-- the same with each number's place as it should be
 abbrev pub stepBy : (List ℕ → ℕ → ℕ) → (List ℕ → ℕ → ℕ) → List ℕ → ℕ → Step
-stepBy fault next s at = cond (eqb at (length s)) (record { answer = Done; next = cursor at }) (answer (drop at s) at (next s at) (fault s at))
+stepBy fault next s at = stepWith placeIn fault next s at
 
 -- the walk by a step, in at most `fuel` steps
 abbrev pub goOn : (ℕ → Walked) → ℕ → ℕ → Answer → Walked
@@ -45,7 +53,7 @@ behind s at = at + extent (sizeAt (drop at s))
 -- the tests with the one of this number let through where `free` says so
 abbrev pub letThrough : ℕ → Bool → List Row → List Row
 letThrough n free [] = []
-letThrough n free (r ∷ rs) = row (r .number) (r .holds || (free && eqb (r .number) n)) ∷ letThrough n free rs
+letThrough n free (r ∷ rs) = row (r .number) (r .holds || (free && eqb (r .number) n)) (r .place) ∷ letThrough n free rs
 
 abbrev pub refusesAll : List ℕ → ℕ → Step
 refusesAll = stepBy (λ s at. 2) behind
@@ -98,6 +106,38 @@ firstSizes = stepBy (λ s at. firstOf (letThrough 3 (allowed (rowOf (kindAt (dro
 -- W-202: tests the reserved bytes of the body alone
 abbrev pub headerUntested : List ℕ → ℕ → Step
 headerUntested = stepBy (λ s at. firstOf (letThrough 8 (not (headerBlank (drop at s))) (table (drop at s)))) behind
+
+-- W-205: a step with its own places; all else is as it should be
+abbrev pub placedBy : (ℕ → List ℕ → ℕ) → List ℕ → ℕ → Step
+placedBy place = stepWith place (λ s at. faultOf (drop at s)) behind
+
+-- the object's start for every number, as document 01 did
+abbrev pub atStart : List ℕ → ℕ → Step
+atStart = placedBy (λ n t. 0)
+
+-- a place of its own for one number
+abbrev pub placedAt : ℕ → (List ℕ → ℕ) → List ℕ → ℕ → Step
+placedAt m place = placedBy (λ n t. cond (eqb n m) (place t) (placeIn n t))
+
+-- 4 at the version field
+abbrev pub atVersion : List ℕ → ℕ → Step
+atVersion = placedAt 4 (λ t. 6)
+
+-- 5 where the object, by its size, would end
+abbrev pub atObjectsEnd : List ℕ → ℕ → Step
+atObjectsEnd = placedAt 5 (λ t. extent (sizeAt t))
+
+-- 6 at the padding's first byte, whichever is wrong
+abbrev pub atPadding : List ℕ → ℕ → Step
+atPadding = placedAt 6 (λ t. sizeAt t)
+
+-- 8 of the body before 8 of the header
+abbrev pub bodyFirst : List ℕ → ℕ → Step
+bodyFirst = placedAt 8 (λ t. wrongByte (shifted (lengthAt t) (gapsOf (kindAt t))) t (wrongByte (headerGaps (secondAt t)) t 0))
+
+-- 8 of the body as if every header were the first
+abbrev pub firstHeaders : List ℕ → ℕ → Step
+firstHeaders = placedAt 8 (λ t. wrongByte (shifted firstLength (gapsOf (kindAt t))) t 0)
 
 -- counts one object more than there is
 abbrev pub oneMore : Walked → Walked

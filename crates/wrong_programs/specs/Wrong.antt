@@ -1,5 +1,6 @@
--- 01, "What a reader of the contracts must find" and "Slips of the pen", W-202's and W-204's: the wrong programs, each
--- beside an input on which its contract does not hold. `all-refuted` of proofs/Refuted says so of every row.
+-- 01, "What a reader of the contracts must find" and "Slips of the pen", those of W-202, W-204 and W-205: the wrong
+-- programs, each beside an input on which its contract does not hold. `all-refuted` of proofs/Refuted says so of every
+-- row.
 use Prim.Native.Nat.{ℕ}
 use Prim.Native.String.{String}
 use mathlib.Core.Path.{_≡_}
@@ -82,6 +83,13 @@ wrongs =
     ∷ wrong "byte 21 of the second header not tested" (walk (walkBy readers.headerUntested) (set second 21 1))
     ∷ wrong "the second header's body read at 32" (read overload (λ r. r .channel) records.bodyAt32 second 0)
     ∷ wrong "the original time stamp taken for the time stamp" (read overload (λ r. r .header .stamp) records.originalStamp second 0)
+    ∷ wrong "every refusal at the object's start" (step readers.atStart (m9 ++ set m2 34 1) 16)
+    ∷ wrong "its walk" (walk (walkBy readers.atStart) (m9 ++ set m2 34 1))
+    ∷ wrong "4 at the version field" (step readers.atVersion (m9 ++ set m2 6 2) 16)
+    ∷ wrong "5 where the object would end" (step readers.atObjectsEnd (m9 ++ wrapping) 16)
+    ∷ wrong "6 at the padding's first byte, whichever is wrong" (step readers.atPadding (set nineteen 20 1) 0)
+    ∷ wrong "8 of the body before 8 of the header" (step readers.bodyFirst (set (set second 21 1) 42 1) 0)
+    ∷ wrong "8 of the body counted behind a first header always" (step readers.firstHeaders (set second 42 1) 0)
     ∷ wrong "a check that refuses everything" (check checks.refusesAll (m2 ++ m2) m11)
     ∷ wrong "a check that accepts everything" (check checks.acceptsAll (m2 ++ m2) [])
     ∷ wrong "a check that compares the first slip only" (check checks.firstSlipOnly (m2 ++ m2) m12)

@@ -16,7 +16,7 @@ mod timed {
 
     /// The list of the objects from a position on, by the independent reader.
     fn plain_list(log: &[u8], mut at: usize, entries: &mut [[u64; 3]]) -> library::Listed {
-        let mut count = 0;
+        let (mut count, mut place) = (0, 0);
         let end = loop {
             if count == entries.len() {
                 break End::Full;
@@ -27,10 +27,18 @@ mod timed {
                     (count, at) = (count + 1, o.next);
                 }
                 Answer::Done => break End::Done,
-                Answer::Refused(r) => break End::Refused(r.number),
+                Answer::Refused(r) => {
+                    place = r.place;
+                    break End::Refused(r.number);
+                }
             }
         };
-        library::Listed { count, at, end }
+        library::Listed {
+            count,
+            at,
+            place,
+            end,
+        }
     }
 
     /// The object of a type at a position, by the independent reader.

@@ -18,9 +18,9 @@ mod read;
 
 pub use read::read_line;
 
-use crate::header::SHORT_HEADER;
+use crate::header::{Header, SHORT_HEADER};
 use crate::layout::*;
-use crate::object::{head_holds, reserved_holds, step, Answer};
+use crate::object::{head_holds, step, wrong_reserved, Answer};
 use crate::records::{record_in, CanMessage, CanOverload, CanStatistic, Head, Record};
 use line::Line;
 
@@ -222,7 +222,7 @@ fn whole_line(kind: u32, object: &[u8], out: &mut [u8]) -> Result<usize, Refusal
 fn is_whole(object: &[u8], row: &Row) -> bool {
     head_holds(object)
         && u64::from(u32_at(object, 8)) == object.len() as u64
-        && reserved_holds(object, row)
+        && wrong_reserved(object, Header::of(object), row).is_none()
 }
 
 /// The line of the object that these bytes are, without padding. Bytes that
@@ -251,7 +251,7 @@ pub enum LineAt {
     },
     /// The position is exactly the end of the log.
     Done,
-    /// A refusal: 1 to 9 at their place, or 10 at place 0.
+    /// A refusal: 1 to 9 at the place that the step tells, or 10 at place 0.
     Refused(Refusal),
 }
 

@@ -4,11 +4,12 @@
 //! other words. This crate was written from the paper alone. Where that can be
 //! read in two ways, points 1 to 15 of docs/DECISIONS.md hold. Document 02 has
 //! the change requests: [`asc`] is the first of them, W-201, the second header
-//! in [`header`] is W-202, and the padding in [`layout`] is W-204's.
+//! in [`header`] is W-202, the padding in [`layout`] is W-204's, and the places
+//! that [`object`] tells are W-205's.
 //!
 //! * [`header`]: the two headers and their lengths
-//! * [`layout`]: type list, padding, refusal numbers
-//! * [`object`]: the next object, the walk, the views
+//! * [`layout`]: type list, reserved bytes, rules, padding, refusal numbers
+//! * [`object`]: the next object, the walk, the places of refusals, the views
 //! * [`records`]: reading and writing one record of each type
 //! * [`slips`]: the check of a bundle against a log
 //! * [`programs`]: what the lister and the desk program print

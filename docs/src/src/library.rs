@@ -128,7 +128,7 @@ pub enum End {
     Full,
     /// The log's end.
     Done,
-    /// An object was refused by this number, at the position.
+    /// The object at the position was refused by this number.
     Refused(u8),
 }
 
@@ -137,22 +137,25 @@ pub enum End {
 pub struct Listed {
     /// How many objects were listed.
     pub count: usize,
-    /// Where the next call goes on.
+    /// Where the next call goes on; at a refusal the refused object's start.
     pub at: usize,
+    /// The place that a refusal tells; 0 where there is none.
+    pub place: usize,
     /// Why it ended.
     pub end: End,
 }
 
 /// Lists objects from a position on: start, size and type of each.
 pub fn list(log: &[u8], at: usize, entries: &mut [[u64; 3]]) -> Listed {
-    let mut out = [0u64; 2];
+    let mut out = [0u64; 3];
     let numbers = entries.as_flattened_mut();
     let (p, k) = (numbers.as_mut_ptr(), numbers.len());
     // Safe: as in `walk`, with one slice more that is lent to the call alone.
-    let number = unsafe { mshelovat_list(log.as_ptr(), log.len(), at, p, k, out.as_mut_ptr(), 2) };
+    let number = unsafe { mshelovat_list(log.as_ptr(), log.len(), at, p, k, out.as_mut_ptr(), 3) };
     Listed {
         count: out[0] as usize,
         at: out[1] as usize,
+        place: out[2] as usize,
         end: match number {
             0 => End::Full,
             DONE => End::Done,
@@ -281,7 +284,7 @@ mod tests {
             [
                 mshelovat_walk(log, 0, o, 0),
                 mshelovat_step(log, 0, 0, o, 3),
-                mshelovat_list(log, 0, 0, e, 3, o, 1),
+                mshelovat_list(log, 0, 0, e, 3, o, 2),
                 mshelovat_check(log, 0, log, 0, o, 0),
                 mshelovat_read(log, 0, 0, 3, b, 16, o, 1),
                 mshelovat_write(log, 16, b, 16, o, 0),

@@ -337,12 +337,12 @@ fn lines_at_positions() {
     assert_eq!(at(&log, 4, 64), no(2, 4, 4));
     let mut damaged = log.clone();
     damaged[162 + 16] = 0;
-    assert_eq!(at(&damaged, 162, 0), no(7, 162, 162));
+    assert_eq!(at(&damaged, 162, 0), no(7, 178, 162));
     damaged[34] = 1;
-    assert_eq!(at(&damaged, 0, 0), no(8, 0, 0));
+    assert_eq!(at(&damaged, 0, 0), no(8, 34, 0));
     damaged[161] = 1;
-    assert_eq!(at(&damaged, 36, 64), no(6, 36, 36));
-    assert_eq!(at(&log[..100], 36, 64), no(5, 36, 36));
+    assert_eq!(at(&damaged, 36, 64), no(6, 161, 36));
+    assert_eq!(at(&log[..100], 36, 64), no(5, 100, 36));
     // The second line over the first, which goes on behind it.
     assert_eq!(&out[..29], b"1.000000000 2 64 Rx r 3\r\nme\r\n");
     assert!(out[29..].iter().all(|b| *b == UNTOUCHED));

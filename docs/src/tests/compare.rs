@@ -29,14 +29,24 @@ fn judged(seed: u64, count: usize, wrong: Break, answers: &[u8]) -> bool {
     judge(seed, count, wrong, &mut &answers[..])
 }
 
+/// The cases of a seed reach all that they must, and none of the sweep is left.
+fn reaches_all(seed: u64) {
+    let (answers, left) = answers_and_left(seed, COUNT);
+    assert!(judged(seed, COUNT, Break::Nothing, &answers), "{seed}");
+    assert_eq!(left, 0, "{seed}");
+}
+
 /// Seed 7 is the one that `tests/compare` takes by itself.
 #[test]
 fn every_seed_reaches_all_that_it_must() {
-    for seed in [7, 1, 2, 3] {
-        let (answers, left) = answers_and_left(seed, COUNT);
-        assert!(judged(seed, COUNT, Break::Nothing, &answers), "{seed}");
-        assert_eq!(left, 0, "{seed}");
-    }
+    [7, 1, 2, 3].into_iter().for_each(reaches_all);
+}
+
+/// Nothing that must come comes by chance alone. Run with --release --ignored.
+#[test]
+#[ignore = "300 seeds"]
+fn many_seeds_reach_all_that_they_must() {
+    (0..300).for_each(reaches_all);
 }
 
 #[test]
@@ -60,7 +70,7 @@ fn too_few_cases_do_not_pass() {
 #[test]
 fn every_break_shows() {
     let answers = answers(7, COUNT);
-    for name in ["padding", "offset", "room", "rule"] {
+    for name in ["padding", "offset", "room", "rule", "place", "last"] {
         let wrong = Break::named(name).unwrap();
         assert!(!judged(7, COUNT, wrong, &answers), "{name}");
     }

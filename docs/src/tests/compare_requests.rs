@@ -13,11 +13,26 @@ use program::replies::{tell, Break};
 const SEED: u64 = 7;
 const COUNT: usize = 20_000;
 
-fn answers(wrong: Break) -> Vec<u8> {
-    let mut cases = Cases::new(SEED);
+fn answers_of(seed: u64, wrong: Break) -> Vec<u8> {
+    let mut cases = Cases::new(seed);
     let mut page = vec![0; LIMIT];
     let answer = |_| tell(&cases.next_case(), &mut page, wrong).bytes();
     (0..COUNT).flat_map(answer).collect()
+}
+
+fn answers(wrong: Break) -> Vec<u8> {
+    answers_of(SEED, wrong)
+}
+
+/// Nothing that must come comes by chance alone. Run with --release --ignored.
+#[test]
+#[ignore = "300 seeds"]
+fn many_seeds_reach_all_that_they_must() {
+    for seed in 0..300 {
+        let answers = answers_of(seed, Break::Nothing);
+        let passed = judge(seed, COUNT, Break::Nothing, &mut &answers[..]);
+        assert!(passed, "{seed}");
+    }
 }
 
 #[test]
@@ -46,7 +61,7 @@ fn too_few_cases_do_not_pass() {
 #[test]
 fn every_break_shows() {
     let answers = answers(Break::Nothing);
-    for name in ["counter", "remote", "time"] {
+    for name in ["counter", "remote", "time", "place"] {
         let wrong = Break::named(name).unwrap();
         assert!(!judge(SEED, COUNT, wrong, &mut &answers[..]), "{name}");
     }

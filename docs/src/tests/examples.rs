@@ -1,5 +1,5 @@
 //! The examples of document 01: marked ones, run ones, slips of the pen. M3, M4
-//! and M5 are as W-204 has them.
+//! and M5 are as W-204 has them, and places are W-205's.
 
 mod common;
 use common::*;
@@ -61,23 +61,23 @@ fn m3_to_m5_frame_of_61() {
     };
     assert_eq!(step(&log, 0), Answer::Object(object));
     assert_eq!(frame_view(&log, 0), [0xAB; 61]);
-    assert_eq!(walk(&log[..125]), refused(5, 0));
+    assert_eq!(walk(&log[..125]), refused(5, 125));
     let mut spoilt = log.clone();
     spoilt[125] = 1;
-    assert_eq!(walk(&spoilt), refused(6, 0));
+    assert_eq!(walk(&spoilt), refused(6, 125));
 }
 
 #[test]
 fn m6_to_m8_damaged_overload() {
     let mut m7 = m2();
     m7[34] = 1;
-    assert_eq!(walk(&m7), refused(8, 0));
+    assert_eq!(walk(&m7), refused(8, 34));
     let mut m6 = m7;
     m6[16] = 0;
-    assert_eq!(walk(&m6), refused(7, 0));
+    assert_eq!(walk(&m6), refused(7, 16));
     let mut m8 = m2();
     m8[8] = 40;
-    assert_eq!(walk(&m8), refused(3, 0));
+    assert_eq!(walk(&m8), refused(3, 8));
 }
 
 #[test]
@@ -85,7 +85,7 @@ fn m9_and_m10_foreign() {
     let m9 = foreign(16, 16);
     assert_eq!(walk(&m9), Ok(1));
     assert_eq!(foreign_view(&m9, 0), m9);
-    assert_eq!(walk(&foreign(16, 17)), refused(4, 0));
+    assert_eq!(walk(&foreign(16, 17)), refused(4, 4));
 }
 
 fn m11() -> Vec<u8> {
@@ -118,16 +118,16 @@ fn run_frame_sizes() {
     record.frame = &long;
     assert_eq!(write_ethernet_frame(&record, &mut out), refused(9, 0));
     assert_eq!(walk(&frame_object(1_676)), Ok(1));
-    assert_eq!(walk(&frame_object(1_677)), refused(3, 0));
+    assert_eq!(walk(&frame_object(1_677)), refused(3, 8));
     assert_eq!(walk(&frame_object(64)), Ok(1));
-    assert_eq!(walk(&bare(120, 63)), refused(3, 0));
+    assert_eq!(walk(&bare(120, 63)), refused(3, 8));
 }
 
 #[test]
 fn run_flexray_counts() {
     assert_eq!(walk(&flexray(254, 254)), Ok(1));
-    assert_eq!(walk(&flexray(255, 255)), refused(9, 0));
-    assert_eq!(walk(&flexray(10, 9)), refused(9, 0));
+    assert_eq!(walk(&flexray(255, 255)), refused(9, 56));
+    assert_eq!(walk(&flexray(10, 9)), refused(9, 56));
 }
 
 #[test]
@@ -143,7 +143,7 @@ fn run_lister() {
     let text = "0 36 3\n36 52 62\nend 88 objects 2\n";
     assert_eq!(programs::lister(&log), text);
     assert_eq!(programs::lister(&[]), "end 0 objects 0\n");
-    assert_eq!(programs::lister(&log[..87]), "0 36 3\nrefused 5 at 36\n");
+    assert_eq!(programs::lister(&log[..87]), "0 36 3\nrefused 5 at 87\n");
     assert_eq!(programs::lister(&[0; 65_536]), "refused 2 at 0\n");
     assert_eq!(programs::lister(&[0; 65_537]), "too long\n");
 }
@@ -181,7 +181,7 @@ fn pen_foreign_padding_is_tested() {
     let mut log = foreign(17, 16);
     log.extend([1]);
     log.extend(m2());
-    assert_eq!(walk(&log), refused(6, 0));
+    assert_eq!(walk(&log), refused(6, 17));
     log[17] = 0;
     assert_eq!(walk(&log), Ok(2));
     assert_eq!(foreign_view(&log, 0), foreign(17, 16));
@@ -199,7 +199,7 @@ fn pen_entries_are_compared_whole() {
 fn pen_nothing_wraps_in_32_bits() {
     for size in (u32::MAX - 40)..=u32::MAX {
         let log = joined(&[m2(), foreign(size, 16)]);
-        assert_eq!(walk(&log), refused(5, 36), "size {size}");
+        assert_eq!(walk(&log), refused(5, log.len()), "size {size}");
     }
     let log = joined(&[m2(), m2()]);
     let wrapping = (u32::MAX - 3, 76, 3);

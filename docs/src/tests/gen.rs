@@ -6,6 +6,7 @@ use mshelovat_reference::header::Header;
 use mshelovat_reference::layout::u32_at;
 use mshelovat_reference::object::{step, walk, Answer, Object};
 use mshelovat_reference::slips::check;
+use std::collections::BTreeSet;
 
 #[test]
 fn one_seed_gives_one_outcome() {
@@ -86,21 +87,25 @@ fn objects_under_a_header() {
 fn damages_give_their_numbers_at_their_place() {
     let mut rng = Rng(43);
     for damage in gen::DAMAGES {
-        let mut met = [0; 10];
+        let (mut met, mut decided) = ([0; 10], 0);
         for _ in 0..500 {
             let count = rng.below(5);
             let (log, place) = gen::damaged_log_at(&mut rng, count, damage);
+            decided += usize::from(place.is_some());
             match walk(&log) {
                 Ok(_) => met[0] += 1,
                 Err(refusal) => {
                     met[refusal.number as usize] += 1;
-                    if !damage.numbers().is_empty() {
-                        assert_eq!(refusal.place, place, "{damage:?}");
-                    }
+                    let told = place.unwrap_or(refusal.place);
+                    assert_eq!(refusal.place, told, "{damage:?} {}", refusal.number);
                 }
             }
         }
         let promised = damage.numbers();
+        match damage {
+            gen::Damage::OtherPair => assert!(decided > 100),
+            _ => assert_eq!(decided, if promised.is_empty() { 0 } else { 500 }),
+        }
         for (number, times) in met.iter().enumerate() {
             let may = promised.is_empty() || promised.contains(&(number as u8));
             assert!(may || *times == 0, "{damage:?}: {met:?}");
@@ -110,17 +115,75 @@ fn damages_give_their_numbers_at_their_place() {
     }
 }
 
+/// The places that a damage of one object tells: type, is it the second header, and the byte,
+/// counted under the first.
+fn places(seed: u64, damage: gen::Damage) -> BTreeSet<(u32, bool, usize)> {
+    let mut rng = Rng(seed);
+    let told = |_| {
+        let (log, place) = gen::damaged_log_at(&mut rng, 0, damage);
+        let (kind, second) = (u32_at(&log, 12), Header::of(&log) == Header::Second);
+        let place = place.expect("a damage that decides");
+        let moved = second && place >= 40;
+        (kind, second, if moved { place - 8 } else { place })
+    };
+    (0..6_000).map(told).collect()
+}
+
+/// Every reserved byte alone, and every one that has a later one together with a later one.
+#[test]
+fn damages_reach_every_reserved_byte() {
+    let (mut alone, mut first) = (BTreeSet::new(), BTreeSet::new());
+    for second in [false, true] {
+        for (kind, bytes) in [
+            (3, &[34, 35][..]),
+            (50, &[39, 59, 72, 73, 74, 75]),
+            (57, &[46, 47, 161, 162, 163]),
+            (62, &[46, 47, 51]),
+            (120, &[60, 61, 62, 63]),
+            (121, &[60, 61, 62, 63]),
+        ] {
+            alone.extend(bytes.iter().map(|at| (kind, second, *at)));
+            let with_later = &bytes[..bytes.len() - 1];
+            first.extend(with_later.iter().map(|at| (kind, second, *at)));
+            first.extend(second.then_some((kind, true, 21)));
+        }
+    }
+    assert_eq!(places(53, gen::Damage::Reserved), alone);
+    assert_eq!(places(54, gen::Damage::TwoReserved), first);
+    let gaps = gen::LISTED.map(|kind| (kind, true, 21));
+    assert_eq!(places(55, gen::Damage::HeaderReserved), gaps.into());
+}
+
+/// Every byte of one, two and three bytes of padding, and every one before another.
+#[test]
+fn damages_reach_every_padding_byte() {
+    let mut rng = Rng(56);
+    let mut reached = |damage| -> BTreeSet<(usize, usize)> {
+        let told = |_| {
+            let (log, place) = gen::damaged_log_at(&mut rng, 0, damage);
+            let size = u32_at(&log, 8) as usize;
+            (size % 4, place.expect("a damage that decides") - size)
+        };
+        (0..1_000).map(told).collect()
+    };
+    let alone = [(1, 0), (2, 0), (2, 1), (3, 0), (3, 1), (3, 2)];
+    assert_eq!(reached(gen::Damage::Padding), alone.into());
+    let first = [(2, 0), (3, 0), (3, 1)];
+    assert_eq!(reached(gen::Damage::TwoPadding), first.into());
+}
+
 /// Document 01's padding, behind listed objects and behind foreign ones.
 #[test]
 fn old_padding_gives_four_numbers() {
     let mut rng = Rng(51);
     let mut met = [[0; 10]; 2];
     for _ in 0..1_000 {
-        let (log, place) = gen::damaged_log_at(&mut rng, 1, gen::Damage::OldPadding);
+        let log = gen::damaged_log(&mut rng, 1, gen::Damage::OldPadding);
         let number = walk(&log).expect_err("a damaged log").number;
+        let last = objects(&log).last().copied();
         let start = match number {
-            1 | 2 => objects(&log).last().expect("the damaged one").start,
-            _ => place,
+            1 | 2 => last.expect("the damaged one").start,
+            _ => last.map_or(0, |object| object.next),
         };
         let kind = u32_at(&log, start + 12);
         let size = u32_at(&log, start + 8) as usize;

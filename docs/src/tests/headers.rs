@@ -6,7 +6,7 @@ use common::*;
 use mshelovat_reference::asc;
 use mshelovat_reference::gen::{self, Rng};
 use mshelovat_reference::header::{body, header_length, Header};
-use mshelovat_reference::layout::{occupied, row, u32_at};
+use mshelovat_reference::layout::{occupied, row, u32_at, Refusal};
 use mshelovat_reference::object::{frame_view, rest, step, walk, Answer};
 use mshelovat_reference::programs::{desk, lister};
 use mshelovat_reference::records::*;
@@ -85,13 +85,13 @@ fn the_pair_comes_before_the_size() {
         for size in [0, 5, 15, 16, 31, 35, 36, 37, 39, 40, 43, 44, 45, u32::MAX] {
             for (header, version) in [(32, 2), (40, 1), (33, 1), (40, 3), (0, 0), (16, 1)] {
                 let log = named(&object, header, version, size);
-                assert_eq!(walk(&log), refused(4, 0), "{header} {version} {size}");
+                assert_eq!(walk(&log), refused(4, 4), "{header} {version} {size}");
             }
             if size != 36 {
-                assert_eq!(walk(&named(&object, 32, 1, size)), refused(3, 0), "{size}");
+                assert_eq!(walk(&named(&object, 32, 1, size)), refused(3, 8), "{size}");
             }
             if size != 44 {
-                assert_eq!(walk(&named(&object, 40, 2, size)), refused(3, 0), "{size}");
+                assert_eq!(walk(&named(&object, 40, 2, size)), refused(3, 8), "{size}");
             }
         }
     }
@@ -106,12 +106,12 @@ fn sizes_of_the_other_header() {
         for size in sizes {
             let [first, second] = both(bare(kind, *size));
             if kind < 120 || *size > 1_668 {
-                assert_eq!(walk(&named(&first, 32, 1, size + 8)), refused(3, 0));
-                assert_eq!(walk(&named(&second, 32, 1, size + 8)), refused(3, 0));
+                assert_eq!(walk(&named(&first, 32, 1, size + 8)), refused(3, 8));
+                assert_eq!(walk(&named(&second, 32, 1, size + 8)), refused(3, 8));
             }
             if kind < 120 || *size < 72 {
-                assert_eq!(walk(&named(&first, 40, 2, *size)), refused(3, 0));
-                assert_eq!(walk(&named(&second, 40, 2, *size)), refused(3, 0));
+                assert_eq!(walk(&named(&first, 40, 2, *size)), refused(3, 8));
+                assert_eq!(walk(&named(&second, 40, 2, *size)), refused(3, 8));
             }
         }
     }
@@ -122,10 +122,10 @@ fn sizes_of_the_other_header() {
 fn foreign_objects_keep_their_order() {
     for version in [0, 1, 2, 3] {
         for (header, size, expected) in [
-            (0, 15, refused(3, 0)),
-            (40, 15, refused(3, 0)),
-            (15, 16, refused(4, 0)),
-            (40, 39, refused(4, 0)),
+            (0, 15, refused(3, 8)),
+            (40, 15, refused(3, 8)),
+            (15, 16, refused(4, 4)),
+            (40, 39, refused(4, 4)),
             (40, 40, Ok(1)),
             (32, 32, Ok(1)),
             (33, 44, Ok(1)),
@@ -148,14 +148,14 @@ fn foreign_objects_keep_their_order() {
 fn the_reserved_byte_of_the_header() {
     for value in [1, 0x80, 0xFF] {
         let log = with(&example(), 21, &[value]);
-        assert_eq!(walk(&log), refused(8, 0));
-        assert_eq!(walk(&with(&log, 16, &[3])), refused(7, 0));
-        assert_eq!(walk(&with(&log, 42, &[1])), refused(8, 0));
-        assert_eq!(walk(&log[..43]), refused(5, 0));
+        assert_eq!(walk(&log), refused(8, 21));
+        assert_eq!(walk(&with(&log, 16, &[3])), refused(7, 16));
+        assert_eq!(walk(&with(&log, 42, &[1])), refused(8, 21));
+        assert_eq!(walk(&log[..43]), refused(5, 43));
         let structure = with(&second(&frame_object(80)), 40, &[31]);
-        for content in [second(&flexray(1, 0)), structure] {
-            assert_eq!(walk(&content), refused(9, 0));
-            assert_eq!(walk(&with(&content, 21, &[value])), refused(8, 0));
+        for (content, field) in [(second(&flexray(1, 0)), 64), (structure, 40)] {
+            assert_eq!(walk(&content), refused(9, field));
+            assert_eq!(walk(&with(&content, 21, &[value])), refused(8, 21));
         }
         // Under the first header it is a part of the client index.
         assert_eq!(walk(&with(&m2(), 21, &[value])), Ok(1));
@@ -166,9 +166,9 @@ fn the_reserved_byte_of_the_header() {
 fn a_cut_header() {
     let log = example();
     for length in 16..44 {
-        assert_eq!(walk(&log[..length]), refused(5, 0), "{length}");
+        assert_eq!(walk(&log[..length]), refused(5, length), "{length}");
         let sized = named(&log[..length], 40, 2, length as u32);
-        assert_eq!(walk(&sized), refused(3, 0), "{length}");
+        assert_eq!(walk(&sized), refused(3, 8), "{length}");
     }
     assert_eq!(walk(&log[..15]), refused(1, 0));
 }
@@ -182,7 +182,7 @@ fn the_length_of_a_frame() {
         assert_eq!(frame_view(&log, 0), vec![0xAB; n]);
         assert_eq!(log[40..42], [32, 0]);
         let long = ((size - 64) as u16).to_le_bytes();
-        assert_eq!(walk(&with(&log, 62, &long)), refused(9, 0));
+        assert_eq!(walk(&with(&log, 62, &long)), refused(9, 62));
     }
     let log = joined(&[second(&frame_object(125)), m2()]);
     assert_eq!(rest(&log, 0), m2());
@@ -190,7 +190,7 @@ fn the_length_of_a_frame() {
         panic!("a frame");
     };
     assert_eq!((object.size, object.next), (133, 134));
-    assert_eq!(walk(&second(&frame_object(1_677))), refused(3, 0));
+    assert_eq!(walk(&second(&frame_object(1_677))), refused(3, 8));
 }
 
 #[test]
@@ -280,12 +280,12 @@ fn lines_of_the_second_header() {
     assert_eq!(&out, text);
     // Byte 21 is an 8: no line, whatever the unit; at a position 7 or 8.
     let log = with(&example(), 21, &[1]);
-    let no = |number| asc::LineAt::Refused(mshelovat_reference::layout::Refusal::new(number, 0));
+    let no = |number, place| asc::LineAt::Refused(Refusal::new(number, place));
     assert_eq!(asc::object_line(&log, &mut out), Ok(0));
-    assert_eq!(asc::line_at(&log, 0, &mut out), no(8));
+    assert_eq!(asc::line_at(&log, 0, &mut out), no(8, 21));
     let log = with(&log, 16, &[9]);
     assert_eq!(asc::object_line(&log, &mut out), Ok(0));
-    assert_eq!(asc::line_at(&log, 0, &mut out), no(7));
+    assert_eq!(asc::line_at(&log, 0, &mut out), no(7, 16));
     assert_eq!(
         asc::object_line(&with(&example(), 16, &[9]), &mut out),
         refused(7, 0)

@@ -43,7 +43,7 @@ fn the_top_does_not_wrap() {
     ] {
         assert_eq!(occupied(size), whole);
         let log = joined(&[m2(), foreign(size, 16), m2()]);
-        assert_eq!(walk(&log), refused(5, 36), "{size}");
+        assert_eq!(walk(&log), refused(5, log.len()), "{size}");
     }
 }
 
@@ -146,10 +146,10 @@ fn every_byte_of_the_padding() {
             for value in [1, 0x4C, 0x80, 0xFF] {
                 for mut log in [last.clone(), within.clone()] {
                     log[at] = value;
-                    assert_eq!(walk(&log), refused(6, 36), "{size} {at}");
+                    assert_eq!(walk(&log), refused(6, at), "{size} {at}");
                 }
             }
-            assert_eq!(walk(&last[..at]), refused(5, 36), "{size} {at}");
+            assert_eq!(walk(&last[..at]), refused(5, at), "{size} {at}");
         }
         let behind = last.len();
         let mut next = within.clone();
@@ -166,9 +166,11 @@ fn one_zero_more_or_less() {
         let more = [object.clone(), vec![0; zeros + 1]].concat();
         assert_eq!(walk(&more), refused(1, size + zeros), "{size}");
         assert_eq!(walk(&joined(&[more, m2()])), refused(2, size + zeros));
+        // The log's end, or what stands in the place of the last zero.
         let less = [object, vec![0; zeros - 1]].concat();
-        assert_eq!(walk(&less), refused(5, 0), "{size}");
-        assert_eq!(walk(&joined(&[less, m2()])), refused(6, 0), "{size}");
+        let end = size + zeros - 1;
+        assert_eq!(walk(&less), refused(5, end), "{size}");
+        assert_eq!(walk(&joined(&[less, m2()])), refused(6, end), "{size}");
     }
     // Where the size leaves nothing over there is nothing less.
     for object in of_sizes([64, 128]) {
@@ -185,8 +187,8 @@ fn old_logs() {
     for (size, old, within, last) in [
         (65, 68, refused(2, 66), refused(1, 66)),
         (125, 128, refused(2, 126), refused(1, 126)),
-        (67, 68, refused(6, 0), refused(5, 0)),
-        (127, 128, refused(6, 0), refused(5, 0)),
+        (67, 68, refused(6, 68), refused(5, 68)),
+        (127, 128, refused(6, 128), refused(5, 128)),
         (64, 64, Ok(2), Ok(1)),
         (126, 128, Ok(2), Ok(1)),
     ] {
@@ -200,7 +202,7 @@ fn old_logs() {
     // The same behind another object, under the second header, and in a check.
     for (size, old, within, last) in [
         (133, 136, refused(2, 170), refused(1, 170)),
-        (135, 136, refused(6, 36), refused(5, 36)),
+        (135, 136, refused(6, 172), refused(5, 172)),
     ] {
         let mut object = followed(second(&frame_object(size - 8)), size as usize, &[]);
         object.resize(old, 0);
@@ -290,7 +292,7 @@ fn python_can() {
     // The last one counted with its padding, and without its last zero.
     let padded = joined(&[slip(1, &one), slip(2, &[two[0], (318, 110, 100)])]);
     assert_eq!(desk(Some(&log), Some(&padded)), "refused 25 at 318\n");
-    assert_eq!(desk(Some(&log[..427]), Some(&bundle)), "refused 5 at 318\n");
+    assert_eq!(desk(Some(&log[..427]), Some(&bundle)), "refused 5 at 427\n");
 }
 
 /// The answers of another reading of the papers.

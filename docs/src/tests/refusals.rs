@@ -1,6 +1,6 @@
 //! Every refusal number of the reader and the writer under both headers, the
 //! order in which they are tried, positions and views. What W-202 alone asks is
-//! in headers.rs.
+//! in headers.rs; more on the places is in places.rs.
 
 mod common;
 use common::*;
@@ -24,7 +24,7 @@ fn head_at_any_position() {
     };
     assert_eq!((refusal.number, refusal.place), (2, 20));
     assert_eq!(walk(&log[..15]), refused(1, 0));
-    assert_eq!(walk(&log[..16]), refused(5, 0));
+    assert_eq!(walk(&log[..16]), refused(5, 16));
 }
 
 #[test]
@@ -53,7 +53,7 @@ fn size_of_every_type() {
             let expected = if sizes.contains(&size) {
                 Ok(1)
             } else {
-                refused(3, 0)
+                refused(3, 8)
             };
             for log in both(long_enough(kind, size)) {
                 assert_eq!(walk(&log), expected, "{kind} {size}");
@@ -63,12 +63,12 @@ fn size_of_every_type() {
     for kind in 120..=123 {
         for size in (0..64).chain(1_677..1_700) {
             for log in both(long_enough(kind, size)) {
-                assert_eq!(walk(&log), refused(3, 0), "{kind} {size}");
+                assert_eq!(walk(&log), refused(3, 8), "{kind} {size}");
             }
         }
     }
     for size in 0..16 {
-        assert_eq!(walk(&foreign(size, 16)), refused(3, 0));
+        assert_eq!(walk(&foreign(size, 16)), refused(3, 8));
     }
 }
 
@@ -97,8 +97,8 @@ fn header_of_listed_and_foreign() {
             // Either pair, but for the other one's size.
             let expected = |own, other| match (size, version) {
                 pair if pair == own => Ok(1),
-                pair if pair == other => refused(3, 0),
-                _ => refused(4, 0),
+                pair if pair == other => refused(3, 8),
+                _ => refused(4, 4),
             };
             let [first, second] = both(m2());
             let answer = walk(&with_pair(&first, size, version));
@@ -108,7 +108,7 @@ fn header_of_listed_and_foreign() {
             let expected = if (16..=44).contains(&size) {
                 Ok(1)
             } else {
-                refused(4, 0)
+                refused(4, 4)
             };
             assert_eq!(walk(&with_pair(&foreign(44, 0), size, version)), expected);
         }
@@ -120,14 +120,14 @@ fn unit_and_kept_header_fields() {
     for mut log in both(m2()) {
         for unit in [0u32, 3, 256, 257, 0x0100_0000, u32::MAX] {
             log[16..20].copy_from_slice(&unit.to_le_bytes());
-            assert_eq!(walk(&log), refused(7, 0));
+            assert_eq!(walk(&log), refused(7, 16));
         }
     }
     let [mut first, mut second] = both(m2());
     first[20..32].fill(0xFF);
     assert_eq!(walk(&first), Ok(1));
     second[20..40].fill(0xFF);
-    assert_eq!(walk(&second), refused(8, 0));
+    assert_eq!(walk(&second), refused(8, 21));
     second[21] = 0;
     assert_eq!(walk(&second), Ok(1));
 }
@@ -149,13 +149,13 @@ fn reserved_bytes_and_no_others() {
         for at in 32..size as usize {
             // Data count above byte count: content, not reserved.
             let content = kind == 50 && (at == 56 || at == 57);
-            let expected = match (reserved.contains(&at), content) {
-                (true, _) => refused(8, 0),
-                (false, true) => refused(9, 0),
-                (false, false) => Ok(1),
-            };
             for mut log in both(bare(kind, size)) {
                 let place = moved(&log, at);
+                let expected = match (reserved.contains(&at), content) {
+                    (true, _) => refused(8, place),
+                    (false, true) => refused(9, moved(&log, 56)),
+                    (false, false) => Ok(1),
+                };
                 log[place] = 1;
                 assert_eq!(walk(&log), expected, "{kind} {size} {at}");
             }
@@ -167,14 +167,15 @@ fn reserved_bytes_and_no_others() {
 fn reserved_of_frames() {
     for kind in 120..=123 {
         for at in 32..80 {
-            let expected = match at {
-                32 | 33 | 54 | 55 => refused(9, 0),
-                60..=63 if kind < 122 => refused(8, 0),
-                _ => Ok(1),
-            };
             for mut log in both(frame_object(80)) {
-                log[12] = kind;
                 let place = moved(&log, at);
+                let expected = match at {
+                    32 | 33 => refused(9, moved(&log, 32)),
+                    54 | 55 => refused(9, moved(&log, 54)),
+                    60..=63 if kind < 122 => refused(8, place),
+                    _ => Ok(1),
+                };
+                log[12] = kind;
                 log[place] ^= 1;
                 assert_eq!(walk(&log), expected, "{kind} {at}");
             }
@@ -192,18 +193,16 @@ fn exact_rate() {
         (-1f64).to_bits(),
         u64::MAX,
     ];
-    let rates = sound.map(|r| (r, Ok(1))).into_iter();
-    for (rate, expected) in rates.chain(broken.map(|r| (r, refused(9, 0)))) {
+    let rates = sound.map(|rate| (rate, true)).into_iter();
+    for (rate, holds) in rates.chain(broken.map(|rate| (rate, false))) {
         for mut log in both(bare(57, 184)) {
             let at = moved(&log, 168);
             log[at..at + 8].copy_from_slice(&rate.to_le_bytes());
+            let expected = if holds { Ok(1) } else { refused(9, at) };
             assert_eq!(walk(&log), expected, "{rate:016x}");
         }
         let value = f64::from_bits(rate);
-        assert_eq!(
-            expected.is_ok(),
-            value.is_finite() && value.is_sign_positive()
-        );
+        assert_eq!(holds, value.is_finite() && value.is_sign_positive());
     }
 }
 
@@ -226,6 +225,22 @@ fn harm(log: &mut Vec<u8>, number: u8) {
     }
 }
 
+/// Where [`harm`] is told, behind 36 bytes.
+fn harmed(log: &[u8], number: u8) -> usize {
+    let object = &log[36..];
+    36 + match number {
+        2 => 0,
+        3 => 8,
+        4 => 4,
+        5 => object.len(),
+        6 => moved(object, 330),
+        7 => 16,
+        8 if object[4] == 40 => 21,
+        8 => 39,
+        _ => moved(object, 56),
+    }
+}
+
 /// The order of the tests, for the eleven types.
 const ORDER: [u8; 8] = [2, 4, 3, 5, 6, 7, 8, 9];
 
@@ -237,13 +252,13 @@ fn the_first_that_is_tried_wins() {
             .filter(|(at, _)| set >> at & 1 == 1)
             .map(|(_, number)| *number)
             .collect();
-        let expected = match numbers.first() {
-            Some(number) => refused(*number, 36),
-            None => Ok(2),
-        };
         for mut object in both(flexray(0, 0)) {
             numbers.iter().rev().for_each(|n| harm(&mut object, *n));
             let log = joined(&[m2(), object]);
+            let expected = match numbers.first() {
+                Some(number) => refused(*number, harmed(&log, *number)),
+                None => Ok(2),
+            };
             assert_eq!(walk(&log), expected, "{numbers:?}");
         }
     }
@@ -310,7 +325,9 @@ fn other_done_and_position_after() {
     ));
     // An object of another type is judged all the same.
     log[60] = 1;
-    assert!(matches!(read_can_message(&log, 0), Read::Refused(r) if r.number == 8));
+    assert!(
+        matches!(read_can_message(&log, 0), Read::Refused(r) if r.number == 8 && r.place == 60)
+    );
 }
 
 #[test]

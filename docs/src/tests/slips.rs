@@ -106,9 +106,9 @@ fn the_walk_comes_after_the_bundle_and_before_its_entries() {
     let mut log = three();
     log[106] = 1;
     assert_eq!(both(&log, &slip(1, &[B, A])), refused(23, 0));
-    assert_eq!(both(&log, &[]), refused(8, 72));
-    assert_eq!(both(&log, &slip(1, &[A, (1, 36, 3), B])), refused(8, 72));
-    assert_eq!(both(&log[..100], &slip(1, &[A, B])), refused(5, 72));
+    assert_eq!(both(&log, &[]), refused(8, 106));
+    assert_eq!(both(&log, &slip(1, &[A, (1, 36, 3), B])), refused(8, 106));
+    assert_eq!(both(&log[..100], &slip(1, &[A, B])), refused(5, 100));
 }
 
 #[test]

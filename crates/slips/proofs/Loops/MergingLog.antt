@@ -27,15 +27,15 @@ use Rattle.slips.proofs.Loops.Standing.{Turned, turned}
 
 module _ (s : List ℕ) (k x : ℕ) where
   -- what it tells does not hang on the objects behind it
-  any : (e : Ended) (n m at : ℕ) → answerOf (walkedBy e n at) (Found k x) ≡ answerOf (walkedBy e m at) (Found k x)
-  any atEnd n m at = refl
-  any (refused j) n m at = refl
-  any noStepLeft n m at = refl
+  any : (e : Ended) (n m : ℕ) → answerOf (walkedBy e n) (Found k x) ≡ answerOf (walkedBy e m) (Found k x)
+  any atEnd n m = refl
+  any (refused j p) n m = refl
+  any noStepLeft n m = refl
 
   -- so it is what the whole walk tells
   walk-on-whole : (at n : ℕ) → Walking s at n → walkOnOf s at k x ≡ answerOf (walkOf s) (Found k x)
   unfolding walkOnOf
-  walk-on-whole at n w = any (metAt s at .ended) 0 _ (metAt s at .at) ∙ ap (λ (v : Walked). answerOf v (Found k x)) (w .same)
+  walk-on-whole at n w = any (metAt s at .ended) 0 _ ∙ ap (λ (v : Walked). answerOf v (Found k x)) (w .same)
 
   module _ (at : ℕ) where
     pub walk-on-done : nextAt s at .answer ≡ answer.Done → Refused k x ≡ walkOnOf s at k x

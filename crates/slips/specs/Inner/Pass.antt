@@ -13,7 +13,7 @@ use Rattle.slips.specs.Inner.Merge.{theEnd, mergedOf, finish, mergeOf}
 
 -- trouble that is told where the log from a place on is well formed
 unfoldable pub walkOnOf : List ℕ → ℕ → ℕ → ℕ → Verdict
-walkOnOf s at number place = answerOf (walkedBy (metAt s at .ended) 0 (metAt s at .at)) (Found number place)
+walkOnOf s at number place = answerOf (walkedBy (metAt s at .ended) 0) (Found number place)
 
 -- behind the last of n objects: an entry that is left is stray
 unfoldable pub atEndOf : List ℕ → List Place → ℕ → Verdict

@@ -1,9 +1,9 @@
-//! The cases: by a sweep over the two headers, over the padding, and over the bytes, lengths and rooms of one object of
-//! each type under each header and of a bundle, and at random.
-use super::{headers, padding};
+//! The cases: by a sweep over the two headers, over the padding, over the places of refusals, and over the bytes,
+//! lengths and rooms of one object of each type under each header and of a bundle, and at random.
+use super::{headers, padding, places};
 use mshelovat_reference::gen::{self, Rng, DAMAGES, FAULTS, LISTED};
 use mshelovat_reference::header::Header;
-use mshelovat_reference::layout::{self, occupied, put, u32_at};
+use mshelovat_reference::layout::{self, kind, occupied, put, u32_at};
 use mshelovat_reference::object::{has_frame, step, Answer};
 
 /// The most bytes of a log, and of a bundle.
@@ -41,6 +41,23 @@ impl Case {
     /// The type that a read wants.
     pub fn wanted(&self) -> u32 {
         u32_at(&self.behind, 0)
+    }
+
+    /// Where a walk of the log ends: at its end, or at the first refused object's start.
+    pub fn walked(&self) -> usize {
+        let mut position = 0;
+        while let Answer::Object(object) = step(&self.log, position) {
+            position = object.next;
+        }
+        position
+    }
+
+    /// The start of what is refused, where a question that reads a log is answered so.
+    pub fn refused_at(&self) -> usize {
+        match self.question {
+            1 | 5 => self.number as usize,
+            _ => self.walked(),
+        }
     }
 
     pub fn steps(log: Vec<u8>, number: u64) -> Case {
@@ -149,6 +166,7 @@ fn another(rng: &mut Rng, header: Header, kind: u32, objects: &[Vec<u8>]) -> Vec
 fn sweep(rng: &mut Rng) -> Vec<Case> {
     let mut cases = headers::sweep(rng);
     cases.extend(padding::sweep(rng));
+    cases.extend(places::sweep(rng));
     let mut objects = Header::BOTH.map(|header| one_of_each(rng, header)).concat();
     objects.push(gen::foreign(rng));
     for object in objects {
@@ -165,9 +183,13 @@ fn ends(length: usize, first: usize) -> impl Iterator<Item = usize> {
     (0..length).filter(move |at| *at < first || at + 8 > length)
 }
 
-/// The bytes to change in an object: all, but those far within an array of data.
-fn places(object: &[u8]) -> impl Iterator<Item = usize> {
-    ends(object.len(), 192)
+/// The bytes to change in an object: all, but those far within an array of data. FlexRay's begins at 76 or 84.
+fn bytes_of(object: &[u8]) -> impl Iterator<Item = usize> {
+    let first = match u32_at(object, 12) {
+        kind::FLEXRAY_RECEIVE => 100,
+        _ => 192,
+    };
+    ends(object.len(), first)
 }
 
 /// An object and its padding, read: cut off around its header and its end, and each byte changed. A foreign one is
@@ -179,7 +201,7 @@ fn sweep_reads(rng: &mut Rng, object: &[u8], cases: &mut Vec<Case>) {
     for at in ends(log.len(), 48) {
         cases.push(Case::reads(log[..at].to_vec(), 0, wanted));
     }
-    for at in places(&log) {
+    for at in bytes_of(&log) {
         cases.push(Case::reads(changed(rng, &log, at), 0, wanted));
     }
 }
@@ -201,7 +223,7 @@ fn sweep_rooms(object: &[u8], cases: &mut Vec<Case>) {
 fn sweep_writes(rng: &mut Rng, object: &[u8], cases: &mut Vec<Case>) {
     let kind = u32_at(object, 12);
     let kept = |at: usize| (12..16).contains(&at) || kind == 57 && (4..8).contains(&at);
-    for at in places(object).filter(|at| !kept(*at)) {
+    for at in bytes_of(object).filter(|at| !kept(*at)) {
         cases.push(Case::writes(6, changed(rng, object, at), whole(object)));
     }
 }

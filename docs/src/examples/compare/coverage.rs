@@ -1,5 +1,6 @@
 //! What came, and what must come.
 use super::cases::Case;
+use super::places_seen;
 use super::replies::Told;
 use mshelovat_reference::gen::LISTED;
 use mshelovat_reference::header::{body, Header, SIGNATURE, STATUS_GAP};
@@ -62,12 +63,13 @@ fn musts() -> Vec<(&'static str, Vec<u64>)> {
     musts.extend(by_size.map(|what| (*what, vec![0, 1, 2, 3])));
     musts.extend(START_OVER.map(|(what, over)| (what, over.to_vec())));
     musts.extend(OLD.map(|what| (what, vec![1, 2, 5, 6])));
+    musts.extend(places_seen::musts());
     musts
 }
 
 /// How often each refusal came, and each type was read and written under each header; what the refusals showed of the
-/// headers and of the padding; what sizes and starts left over; what else came, by question. Of the records read: the
-/// bits of both time stamps.
+/// headers, of the padding and of their places; what sizes and starts left over; what else came, by question. Of the
+/// records read: the bits of both time stamps.
 #[derive(Default)]
 pub struct Seen {
     times: BTreeMap<&'static str, BTreeMap<u64, usize>>,
@@ -81,10 +83,7 @@ impl Seen {
             (question, 3) => {
                 self.count("refused", number);
                 if question <= 5 && number <= 9 {
-                    let shown = shown(&case.log, number as u8, place as usize);
-                    shown.iter().for_each(|what| self.count(what, number));
-                    let old = old_padding(&case.log, number as u8, place as usize);
-                    old.iter().for_each(|what| self.count(what, number));
+                    self.note_refusal(case, number as u8, place as usize);
                 }
             }
             (5, 6) => self.note_record(case.wanted(), &told.behind),
@@ -99,6 +98,18 @@ impl Seen {
                 self.note_over(case, &object);
             }
             self.note_written_over(case, &told.behind);
+        }
+    }
+
+    /// What the refusal of an object shows.
+    fn note_refusal(&mut self, case: &Case, number: u8, place: usize) {
+        let start = case.refused_at();
+        let shown = shown(&case.log, number, start).into_iter();
+        for what in shown.chain(old_padding(&case.log, number, start)) {
+            self.count(what, number.into());
+        }
+        for (what, came) in places_seen::shown(case, number, place, start) {
+            self.count(what, came);
         }
     }
 
@@ -199,16 +210,16 @@ fn missing(what: &str, numbers: &[u64], came: impl Fn(u64) -> bool) -> usize {
     never.len()
 }
 
-/// What it shows of the headers that this object of a log was refused by this number.
-fn shown(log: &[u8], number: u8, place: usize) -> Vec<&'static str> {
+/// What it shows of the headers that the object at this start was refused by this number.
+fn shown(log: &[u8], number: u8, start: usize) -> Vec<&'static str> {
     let holds = |(what, of): &(&'static str, u8)| {
-        (*of == number && shows(what, log, place)).then_some(*what)
+        (*of == number && shows(what, log, start)).then_some(*what)
     };
     SHOWN.iter().filter_map(holds).collect()
 }
 
-fn shows(what: &str, log: &[u8], place: usize) -> bool {
-    let object = &log[place..];
+fn shows(what: &str, log: &[u8], start: usize) -> bool {
+    let object = &log[start..];
     let size = u32_at(object, 8);
     let Some(row) = row(u32_at(object, 12)) else {
         return false;
@@ -219,8 +230,8 @@ fn shows(what: &str, log: &[u8], place: usize) -> bool {
         PAIR_AND_SIZE => !Header::BOTH.into_iter().any(allowed),
         FIRST_SIZE => second && allowed(Header::First),
         SECOND_SIZE => !second && allowed(Header::Second),
-        GAP => second && object[STATUS_GAP] != 0 && without_gap(log, place) != Some(8),
-        GAP_AND_CONTENT => second && without_gap(log, place) == Some(9),
+        GAP => second && object[STATUS_GAP] != 0 && without_gap(log, start) != Some(8),
+        GAP_AND_CONTENT => second && without_gap(log, start) == Some(9),
         GAP_AND_UNIT => second && object[STATUS_GAP] != 0,
         _ => {
             let end = Header::First.length() + FRAME_START;
@@ -232,10 +243,10 @@ fn shows(what: &str, log: &[u8], place: usize) -> bool {
 }
 
 /// The number by which the object is refused once byte 21 is zero.
-fn without_gap(log: &[u8], place: usize) -> Option<u8> {
+fn without_gap(log: &[u8], start: usize) -> Option<u8> {
     let mut log = log.to_vec();
-    log[place + STATUS_GAP] = 0;
-    match step(&log, place) {
+    log[start + STATUS_GAP] = 0;
+    match step(&log, start) {
         Answer::Refused(refusal) => Some(refusal.number),
         _ => None,
     }
@@ -259,12 +270,13 @@ fn let_through(case: &Case) -> Vec<Object> {
     objects
 }
 
-/// Is this the refusal of an object whose padding goes up to a multiple of four? Two zero bytes too many stand behind
-/// it (1 and 2) or two too few (5 and 6), and then comes the log's end (1 and 5) or an object (2 and 6).
-fn old_padding(log: &[u8], number: u8, place: usize) -> Option<&'static str> {
+/// Is what is refused here an object whose padding goes up to a multiple of four? Two zero bytes too many stand behind
+/// it (1 and 2: these are refused, it is the one before) or two too few (5 and 6), and then comes the log's end (1 and
+/// 5) or an object (2 and 6).
+fn old_padding(log: &[u8], number: u8, at: usize) -> Option<&'static str> {
     let start = match number {
-        number::HEAD | number::SIGNATURE => object_up_to(log, place)?,
-        number::CUT | number::PADDING => place,
+        number::HEAD | number::SIGNATURE => object_up_to(log, at)?,
+        number::CUT | number::PADDING => at,
         _ => return None,
     };
     let object = &log[start..];

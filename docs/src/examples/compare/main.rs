@@ -2,8 +2,9 @@
 //!
 //! `compare make SEED COUNT` writes the cases to standard output; the Rattle program `compare` answers them;
 //! `compare judge SEED COUNT` makes the same cases again, reads the replies from standard input and compares. With
-//! `--break NAME` behind it, `judge` answers wrongly in one place (`padding`, `offset`, `room`, or `rule`: a step goes
-//! on behind the padding that document 01 had), so that one sees it fail.
+//! `--break NAME` behind it, `judge` answers wrongly in one point (`padding`, `offset`, `room`; `rule`: a step goes on
+//! behind the padding that document 01 had; `place`: refusals are told at the object's start, as before W-205; `last`:
+//! of two wrong bytes that are reserved, or padding, the last one is told), so that one sees it fail.
 //!
 //! A case: the question (1 byte), the lengths of log and bundle (u32), the position or the room (u64), the log, the
 //! bundle. The questions: 1 the step at the position; 2 the walk; 3 the check of the bundle; 4 the log written again to
@@ -36,11 +37,22 @@
 //! written again (from 0 on no start is odd); and what the padding that document 01 had is refused by, behind an object
 //! of the eleven types and behind a foreign one: two zero bytes too many by 2, or by 1 at the log's end, two too few by
 //! 6, or by 5 at its end.
+//!
+//! Of the places (W-205) must come: each of 2 to 9 told of an object behind others, to each question that reads a log;
+//! 2 for each of the four letters; 3 and 4 for each type and for foreign objects, 4 for header size, version, both, and
+//! the size of one header with the other's version; 5 in the header, the rest of the object and the padding; 6 for each
+//! byte of one, two and three bytes of padding, alone and with a later one wrong too; 7 for each type under each
+//! header; 8 for each reserved byte of each type under each header, byte 21 among them, alone and with a later one
+//! wrong too; 9 under each header for the structure length, alone and with the frame length wrong too, and for the
+//! frame length, of each of the four types, for the data count above 254, above the byte count and above both, and for
+//! the exact rate.
 pub mod cases;
 mod coverage;
 mod headers;
 mod numbers;
 mod padding;
+mod places;
+mod places_seen;
 pub mod replies;
 
 use cases::{Case, Cases, LIMIT};
@@ -116,7 +128,8 @@ pub fn judge(seed: u64, count: usize, wrong: Break, input: &mut impl Read) -> bo
 
 fn usage() -> ! {
     eprintln!(
-        "usage: compare make SEED COUNT, or compare judge SEED COUNT [--break padding|offset|room|rule]"
+        "usage: compare make SEED COUNT, \
+         or compare judge SEED COUNT [--break padding|offset|room|rule|place|last]"
     );
     exit(2);
 }

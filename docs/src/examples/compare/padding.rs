@@ -41,7 +41,7 @@ fn objects(rng: &mut Rng) -> Vec<Vec<u8>> {
 }
 
 /// A short foreign object whose size leaves so much over.
-fn foreign(rng: &mut Rng, over: u32) -> Vec<u8> {
+pub fn foreign(rng: &mut Rng, over: u32) -> Vec<u8> {
     loop {
         let object = gen::foreign(rng);
         if object.len() < 40 && layout::padding(object.len() as u32) == over {

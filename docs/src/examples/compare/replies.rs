@@ -1,8 +1,8 @@
 //! This reader's own answer to a case, and the faults that `--break` puts in.
 use super::cases::Case;
 use super::numbers::Numbers;
-use mshelovat_reference::layout::{kind, number, occupied, u32_at, Refusal};
-use mshelovat_reference::object::{step, walk, Answer};
+use mshelovat_reference::layout::{kind, number, occupied, row, u32_at, Refusal};
+use mshelovat_reference::object::{reserved_bytes, step, walk, Answer};
 use mshelovat_reference::records::*;
 use mshelovat_reference::slips::{check, check_plain};
 
@@ -37,6 +37,10 @@ pub enum Break {
     Room,
     /// A step goes on behind the padding that document 01 had, up to a multiple of four.
     Rule,
+    /// What is read is refused at the object's start, as before W-205.
+    Place,
+    /// Of two wrong bytes or more that are reserved, or padding, the last one is told.
+    Last,
 }
 
 impl Break {
@@ -46,6 +50,8 @@ impl Break {
             "offset" => Some(Break::Offset),
             "room" => Some(Break::Room),
             "rule" => Some(Break::Rule),
+            "place" => Some(Break::Place),
+            "last" => Some(Break::Last),
             _ => None,
         }
     }
@@ -53,6 +59,41 @@ impl Break {
 
 /// The answer to a case. What is written goes to the page.
 pub fn tell(case: &Case, page: &mut [u8], wrong: Break) -> Told {
+    let mut told = tell_all_but_place(case, page, wrong);
+    let [word, number, place, ..] = &mut told.reply;
+    if (*word, case.question <= 5) == (3, true) && (2..=9).contains(number) {
+        *place = told_place(case, *number as u8, *place, wrong);
+    }
+    told
+}
+
+/// The place that is told of a refusal by 2 to 9.
+fn told_place(case: &Case, number: u8, place: u64, wrong: Break) -> u64 {
+    let start = case.refused_at();
+    let last = match (wrong, number) {
+        (Break::Place, _) => start,
+        (Break::Last, number::PADDING | number::RESERVED) => {
+            start + last_wrong(&case.log[start..], number)
+        }
+        _ => return place,
+    };
+    last as u64
+}
+
+/// The last wrong byte of the padding, or of the reserved bytes, of an object that starts these bytes.
+fn last_wrong(object: &[u8], number: u8) -> usize {
+    let size = u32_at(object, 8);
+    let mut bytes: Vec<usize> = match row(u32_at(object, 12)) {
+        Some(row) if number == number::RESERVED => {
+            reserved_bytes(Header::of(object), row).collect()
+        }
+        _ => (size as usize..occupied(size) as usize).collect(),
+    };
+    bytes.retain(|at| object[*at] != 0);
+    bytes.pop().expect("a refusal by a wrong byte")
+}
+
+fn tell_all_but_place(case: &Case, page: &mut [u8], wrong: Break) -> Told {
     let room = &mut page[..case.room()];
     let plain = |reply| Told {
         reply,
@@ -99,7 +140,7 @@ fn step_reply(case: &Case, wrong: Break) -> Reply {
         }
         Answer::Done => [2, 0, 0, 0, position],
         Answer::Refused(r) if wrong == Break::Padding && r.number == number::PADDING => {
-            let object = &log[r.place..];
+            let object = &log[position as usize..];
             let (size, kind) = (u32_at(object, 8), u32_at(object, 12));
             let next = position + occupied(size);
             [1, position, size.into(), kind.into(), next]

@@ -3,7 +3,7 @@ use super::asc_cases::KINDS;
 use super::cases::Case;
 use super::replies::{refused, word, Break, Reply, Told};
 use mshelovat_reference::asc::{self, LineAt};
-use mshelovat_reference::header::{Header, STATUS_GAP};
+use mshelovat_reference::header::{header_length, Header, STATUS_GAP};
 use mshelovat_reference::layout::{u32_at, Refusal};
 use mshelovat_reference::object::{step, Answer};
 use mshelovat_reference::records::{record_in, Record};
@@ -19,7 +19,7 @@ pub fn tell(case: &Case, page: &mut [u8], wrong: Break) -> Told {
     let room = &mut page[..case.room()];
     let reply = match case.question {
         1 => used_reply(asc::object_line(&case.first, room)),
-        2 => at_reply(case, room),
+        2 => at_reply(case, room, wrong),
         _ => used_reply(record_line(case, room, wrong)),
     };
     Told {
@@ -35,14 +35,19 @@ fn used_reply(answer: Result<usize, Refusal>) -> Reply {
     }
 }
 
-fn at_reply(case: &Case, room: &mut [u8]) -> Reply {
+fn at_reply(case: &Case, room: &mut [u8], wrong: Break) -> Reply {
     let position = case.number as usize;
     let answer = asc::line_at(&case.first, position, room);
     let next = answer.position_after(position) as u64;
     match answer {
         LineAt::Line { used, .. } => [word::USED, used as u64, 0, 0, next],
         LineAt::Done => [word::DONE, 0, 0, 0, next],
-        LineAt::Refused(refusal) => refused(refusal, next),
+        LineAt::Refused(mut refusal) => {
+            if wrong == Break::Place && refusal.number <= 9 {
+                refusal.place = position;
+            }
+            refused(refusal, next)
+        }
     }
 }
 
@@ -102,7 +107,7 @@ fn any_fraction(text: &[u8]) -> Result<asc::Told, Refusal> {
 
 /// What must come.
 #[rustfmt::skip]
-pub const NEEDED: [&str; 45] = [
+pub const NEEDED: [&str; 57] = [
     "1: line of type 1, first header", "1: line of type 1, second header",
     "1: line of type 3, first header", "1: line of type 3, second header",
     "1: line of type 4, first header", "1: line of type 4, second header",
@@ -114,6 +119,11 @@ pub const NEEDED: [&str; 45] = [
     "2: 0 bytes", "2: done",
     "2: refused 1", "2: refused 2", "2: refused 3", "2: refused 4", "2: refused 5",
     "2: refused 7", "2: refused 8", "2: refused 8, byte 21", "2: refused 10",
+    "2: refused 2 behind others", "2: refused 3 behind others", "2: refused 4 behind others",
+    "2: refused 5 behind others", "2: refused 6 behind others", "2: refused 7 behind others",
+    "2: refused 8 behind others", "2: refused 9 behind others",
+    "2: refused 8, first of an overload's two", "2: refused 8, second of an overload's two",
+    "2: refused 8, both of an overload's two", "2: refused 8, byte 21 and one of an overload's two",
     "3: told type 1", "3: told type 3", "3: told type 4",
     "3: told a time that only unit 1 can write", "3: refused 30",
     "4: line of type 1, first header", "4: line of type 1, second header",
@@ -136,7 +146,12 @@ pub fn names(case: &Case, told: &Told) -> Vec<String> {
         (1, _) => "0 bytes, no object".to_string(),
         (_, _) => "0 bytes".to_string(),
     };
-    let names = [Some(name), shown(case, told)].into_iter().flatten();
+    let others = [
+        shown(case, told),
+        behind_others(case, told),
+        overload(case, told),
+    ];
+    let names = [Some(name)].into_iter().chain(others).flatten();
     let question = case.question;
     names.map(|name| format!("{question}: {name}")).collect()
 }
@@ -153,6 +168,43 @@ fn shown(case: &Case, told: &Told) -> Option<String> {
         _ => return None,
     };
     Some(what.to_string())
+}
+
+/// A refusal at a position, where other objects stand before it. The place is not the object's start, but for 2.
+fn behind_others(case: &Case, told: &Told) -> Option<String> {
+    let [came, number, place, _, next] = told.reply;
+    let refused = (case.question, came) == (2, word::REFUSED) && (2..=9).contains(&number);
+    let placed = place > next || number == 2;
+    let walked = refused && placed && next > 0 && walked(&case.first) as u64 == next;
+    walked.then(|| format!("refused {number} behind others"))
+}
+
+/// Where a walk of a log ends.
+pub fn walked(log: &[u8]) -> usize {
+    let mut position = 0;
+    while let Answer::Object(object) = step(log, position) {
+        position = object.next;
+    }
+    position
+}
+
+/// Which of the reserved bytes of an overload an 8 at a position shows, where it is told at the first of them.
+fn overload(case: &Case, told: &Told) -> Option<String> {
+    let [came, number, place, _, next] = told.reply;
+    if (case.question, came, number) != (2, word::REFUSED, 8) || u32_at(asked(case), 12) != 3 {
+        return None;
+    }
+    let object = asked(case);
+    let body = header_length(object);
+    let set = [object[body + 2] != 0, object[body + 3] != 0];
+    let what = match (place.checked_sub(next)? as usize, set) {
+        (STATUS_GAP, [true, _] | [_, true]) => "byte 21 and one",
+        (at, [true, true]) if at == body + 2 => "both",
+        (at, [true, false]) if at == body + 2 => "first",
+        (at, [false, true]) if at == body + 3 => "second",
+        _ => return None,
+    };
+    Some(format!("refused 8, {what} of an overload's two"))
 }
 
 /// The bytes from the object on that is asked for.

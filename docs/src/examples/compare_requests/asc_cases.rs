@@ -1,8 +1,9 @@
 //! W-201: the cases of questions 1 to 4, by sweeps and at random.
+use super::asc::walked;
 use super::asc_texts;
 use super::cases::{Case, LIMIT};
 use mshelovat_reference::asc::{self, LineAt};
-use mshelovat_reference::gen::{self, Rng, DAMAGES, LISTED};
+use mshelovat_reference::gen::{self, Damage, Rng, DAMAGES, LISTED};
 use mshelovat_reference::header::{header_length, STATUS_GAP};
 use mshelovat_reference::layout::{put, u32_at};
 use mshelovat_reference::records::*;
@@ -411,6 +412,7 @@ pub fn sweeps(rng: &mut Rng) -> Vec<Case> {
         }
     }
     cases.extend(asc_texts::edges().into_iter().map(Case::text));
+    sweep_places(rng, &mut cases);
     cases
 }
 
@@ -420,6 +422,44 @@ fn sweep_rooms(object: &[u8], cases: &mut Vec<Case>) {
         cases.push(Case::object(object.to_vec(), room));
         cases.push(Case::position(object.to_vec(), 0, room));
         cases.push(Case::record(object.to_vec(), u32_at(object, 12), room));
+    }
+}
+
+/// A damage for each of 2 to 9.
+#[rustfmt::skip]
+const REFUSED: [Damage; 8] = [
+    Damage::Signature, Damage::WrongSize, Damage::HeaderVersion, Damage::HeaderCut,
+    Damage::TwoPadding, Damage::Unit, Damage::TwoReserved, Damage::FrameLength,
+];
+
+/// Each of 2 to 9, and each of the reserved bytes of an overload and two of them, behind other objects.
+fn sweep_places(rng: &mut Rng, cases: &mut Vec<Case>) {
+    for damage in REFUSED {
+        let (log, start) = loop {
+            let log = gen::damaged_log(rng, 2, damage);
+            let start = walked(&log);
+            if start > 0 && log.len() <= LIMIT {
+                break (log, start);
+            }
+        };
+        cases.push(Case::position(log, start as u64, 160));
+    }
+    for header in Header::BOTH {
+        let body = header.length();
+        for set in [
+            &[body + 2][..],
+            &[body + 3],
+            &[body + 2, body + 3],
+            &[STATUS_GAP, body + 3],
+        ] {
+            let mut log = gen::padded(gen::object(rng, 103));
+            let start = log.len();
+            log.extend(gen::object_under(rng, header, 3));
+            for at in set {
+                log[start + at] = rng.nonzero();
+            }
+            cases.push(Case::position(log, start as u64, 160));
+        }
     }
 }
 

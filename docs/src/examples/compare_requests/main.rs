@@ -3,7 +3,7 @@
 //! `compare_requests make SEED COUNT` writes the cases to standard output; the Rattle program
 //! `compare_requests` answers them; `compare_requests judge SEED COUNT` makes the same cases again,
 //! reads the replies from standard input and compares. With `--break NAME` behind it, `judge`
-//! answers wrongly in one place (`counter`, `remote` or `time`), so that one sees it fail.
+//! answers wrongly in one point (`counter`, `remote`, `time` or `place`), so that one sees it fail.
 //!
 //! A case: the question (1 byte), the lengths of its first and second part (u32, u32), a number
 //! (u64), the first part, the second part; a part has at most 4,096 bytes. A reply: a word and four
@@ -27,6 +27,9 @@
 //! numbers, each a u64, all 0 where it is refused. Both sides write lines to one page of 4,096
 //! bytes, which is zero at first and never cleared, so that a byte that a call may not change
 //! shows. A room of n bytes is the page's first n.
+//!
+//! W-205, places. The reply to 2 tells the place of 1 to 9 and, as the next position, the one that
+//! was handed in; the others tell place 0.
 //!
 //! The judge also fails where something never came that must come, by what the requests' files say
 //! (`NEEDED`), and where the sweeps were not asked to their end: then COUNT is too small or the
@@ -124,7 +127,7 @@ pub fn judge(seed: u64, count: usize, wrong: Break, input: &mut impl Read) -> bo
 fn usage() -> ! {
     eprintln!(
         "usage: compare_requests make SEED COUNT, \
-         or compare_requests judge SEED COUNT [--break counter|remote|time]"
+         or compare_requests judge SEED COUNT [--break counter|remote|time|place]"
     );
     exit(2);
 }

@@ -41,6 +41,8 @@ pub enum Break {
     Remote,
     /// The reader bounds only the seconds of a time.
     Time,
+    /// What is refused at a position is told at that position, as before W-205.
+    Place,
 }
 
 impl Break {
@@ -49,6 +51,7 @@ impl Break {
             "counter" => Some(Break::Counter),
             "remote" => Some(Break::Remote),
             "time" => Some(Break::Time),
+            "place" => Some(Break::Place),
             _ => None,
         }
     }

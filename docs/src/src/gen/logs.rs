@@ -3,7 +3,7 @@
 use super::{frame, record_under, wrong_pair, Rng};
 use crate::header::{body, Header, SIGNATURE, STATUS_GAP};
 use crate::layout::*;
-use crate::object::{has_frame, step, Answer};
+use crate::object::{has_frame, reserved_bytes, step, Answer};
 use crate::records::write_any;
 
 /// The numbers of the eleven types.
@@ -134,18 +134,24 @@ pub enum Damage {
     HeaderCut,
     /// A padding byte is set.
     Padding,
+    /// Two padding bytes are set.
+    TwoPadding,
     /// The padding goes up to a multiple of four, as document 01 had it.
     OldPadding,
     /// Time unit neither 1 nor 2.
     Unit,
-    /// A reserved byte is set.
+    /// A reserved byte of the body is set, in any of its runs.
     Reserved,
+    /// Two reserved bytes are set, of header or body.
+    TwoReserved,
     /// Structure length not 32.
     StructureLength,
     /// Frame length not that of the frame.
     FrameLength,
     /// The frame's length, counted from the other header's end.
     OtherLength,
+    /// Structure length and frame length are both wrong.
+    BothLengths,
     /// Data count above 254 or above byte count.
     DataCount,
     /// An f64 that breaks its rule.
@@ -162,14 +168,15 @@ pub enum Damage {
 
 /// Every way to damage a log.
 #[rustfmt::skip]
-pub const DAMAGES: [Damage; 26] = [
+pub const DAMAGES: [Damage; 29] = [
     Damage::Signature, Damage::SmallSize, Damage::WrongSize, Damage::TopSize,
     Damage::WrapSize, Damage::HeaderSize, Damage::HeaderVersion, Damage::HeaderPair,
     Damage::PairAndSize, Damage::OtherPair, Damage::OtherSize, Damage::HeaderReserved,
-    Damage::HeaderCut, Damage::Padding, Damage::OldPadding, Damage::Unit,
-    Damage::Reserved, Damage::StructureLength, Damage::FrameLength, Damage::OtherLength,
-    Damage::DataCount, Damage::ExactRate, Damage::Kind, Damage::AnyByte,
-    Damage::CutShort, Damage::LooseEnd,
+    Damage::HeaderCut, Damage::Padding, Damage::TwoPadding, Damage::OldPadding,
+    Damage::Unit, Damage::Reserved, Damage::TwoReserved, Damage::StructureLength,
+    Damage::FrameLength, Damage::OtherLength, Damage::BothLengths, Damage::DataCount,
+    Damage::ExactRate, Damage::Kind, Damage::AnyByte, Damage::CutShort,
+    Damage::LooseEnd,
 ];
 
 impl Damage {
@@ -185,12 +192,12 @@ impl Damage {
             Damage::HeaderPair | Damage::PairAndSize => &[4],
             Damage::OtherPair => &[3, 8, 9],
             Damage::HeaderCut => &[5],
-            Damage::Padding => &[6],
+            Damage::Padding | Damage::TwoPadding => &[6],
             Damage::OldPadding => &[1, 2, 5, 6],
             Damage::Unit => &[7],
-            Damage::Reserved | Damage::HeaderReserved => &[8],
+            Damage::Reserved | Damage::TwoReserved | Damage::HeaderReserved => &[8],
             Damage::StructureLength | Damage::FrameLength | Damage::OtherLength => &[9],
-            Damage::DataCount | Damage::ExactRate => &[9],
+            Damage::BothLengths | Damage::DataCount | Damage::ExactRate => &[9],
             Damage::LooseEnd => &[1],
             Damage::Kind | Damage::AnyByte | Damage::CutShort => &[],
         }
@@ -203,11 +210,11 @@ impl Damage {
         match self {
             Damage::WrapSize => foreign,
             _ if self.asks_listed() => listed,
-            Damage::Reserved => rng.pick(&[3, 50, 57, 62, 120, 121]),
+            Damage::Reserved | Damage::TwoReserved => rng.pick(&[3, 50, 57, 62, 120, 121]),
             _ if self.asks_frame() => rng.pick(&LISTED[7..]),
             Damage::DataCount => 50,
             Damage::ExactRate => 57,
-            Damage::Padding => rng.pick(&[50, 120, 121, 122, 123, foreign]),
+            Damage::Padding | Damage::TwoPadding => rng.pick(&[50, 120, 121, 122, 123, foreign]),
             Damage::OldPadding => rng.pick(&[120, 121, 122, 123, foreign, foreign]),
             _ => rng.pick(&[listed, listed, listed, foreign]),
         }
@@ -233,7 +240,10 @@ impl Damage {
     fn asks_frame(self) -> bool {
         matches!(
             self,
-            Damage::StructureLength | Damage::FrameLength | Damage::OtherLength
+            Damage::StructureLength
+                | Damage::FrameLength
+                | Damage::OtherLength
+                | Damage::BothLengths
         )
     }
 
@@ -246,6 +256,7 @@ impl Damage {
         let row = row(was.kind);
         match self {
             Damage::Padding => padding(was.size) > 0,
+            Damage::TwoPadding => padding(was.size) > 1,
             Damage::OldPadding => matches!(padding(was.size), 1 | 3),
             Damage::WrapSize => row.is_none(),
             Damage::HeaderReserved | Damage::HeaderCut => {
@@ -255,7 +266,9 @@ impl Damage {
                 row.is_some_and(|row| !row.bodies.allow(was.header, was.other_size()))
             }
             _ if self.asks_listed() => row.is_some(),
-            Damage::Reserved => row.is_some_and(|row| !row.reserved.is_empty()),
+            Damage::Reserved | Damage::TwoReserved => {
+                row.is_some_and(|row| !row.reserved.is_empty())
+            }
             _ if self.asks_frame() => has_frame(was.kind),
             Damage::DataCount => was.kind == kind::FLEXRAY_RECEIVE,
             Damage::ExactRate => was.kind == kind::LIN_MESSAGE && body(object).len() == 152,
@@ -264,54 +277,102 @@ impl Damage {
     }
 
     /// Damages an object (padding included) that was this when it was sound.
-    fn befall(self, rng: &mut Rng, piece: &mut [u8], was: &Sound) {
+    /// Gives the place of the refusal, from the object's start, where the log
+    /// ends or goes on as it did.
+    fn befall(self, rng: &mut Rng, piece: &mut [u8], was: &Sound) -> usize {
         match self {
-            Damage::Signature => piece[rng.below(4)] ^= rng.nonzero(),
+            Damage::Signature => {
+                piece[rng.below(4)] ^= rng.nonzero();
+                0
+            }
             Damage::SmallSize => put_size(piece, rng.below(16) as u32),
             Damage::WrongSize => put_size(piece, wrong_size(rng, was)),
             Damage::TopSize => put_size(piece, u32::MAX - rng.below(64) as u32),
             Damage::WrapSize => put_size(piece, wrapping_size(rng, was.start)),
-            Damage::HeaderSize => put(piece, 4, &wrong_header_size(rng, was).to_le_bytes()),
+            Damage::HeaderSize => set(piece, 4, &wrong_header_size(rng, was).to_le_bytes()),
             Damage::HeaderVersion => {
                 let version = u16_at(&was.header.pair(), 2);
-                put(piece, 6, &other(rng, version).to_le_bytes());
+                set(piece, 6, &other(rng, version).to_le_bytes());
+                4
             }
-            Damage::HeaderPair => put(piece, 4, &wrong_pair(rng)),
+            Damage::HeaderPair => set(piece, 4, &wrong_pair(rng)),
             Damage::PairAndSize => {
-                put(piece, 4, &wrong_pair(rng));
                 put_size(piece, wrong_size(rng, was));
+                set(piece, 4, &wrong_pair(rng))
             }
-            Damage::OtherPair => put(piece, 4, &was.header.other().pair()),
+            Damage::OtherPair => {
+                set(piece, 4, &was.header.other().pair());
+                8
+            }
             Damage::OtherSize => put_size(piece, was.other_size()),
-            Damage::HeaderReserved => piece[STATUS_GAP] = rng.nonzero(),
+            Damage::HeaderReserved => set(piece, STATUS_GAP, &[rng.nonzero()]),
+            Damage::Unit => set(piece, 16, &wrong_unit(rng).to_le_bytes()),
+            Damage::Kind => set(piece, 12, &other_kind(rng, was.kind).to_le_bytes()),
+            Damage::AnyByte => {
+                piece[rng.below(piece.len())] ^= rng.nonzero();
+                0
+            }
+            Damage::OldPadding | Damage::HeaderCut | Damage::CutShort | Damage::LooseEnd => 0,
+            _ => self.befall_body(rng, piece, was),
+        }
+    }
+
+    /// The same for damages behind the header.
+    fn befall_body(self, rng: &mut Rng, piece: &mut [u8], was: &Sound) -> usize {
+        let body = was.header.length();
+        match self {
             Damage::Padding => {
                 let at = rng.from_to(was.size as usize, piece.len() - 1);
-                piece[at] = rng.nonzero();
+                set(piece, at, &[rng.nonzero()])
             }
-            Damage::Unit => put(piece, 16, &wrong_unit(rng).to_le_bytes()),
+            Damage::TwoPadding => {
+                let padding: Vec<usize> = (was.size as usize..piece.len()).collect();
+                set_two(rng, piece, &padding)
+            }
             Damage::Reserved => {
-                let reserved = row(was.kind).expect("a listed type").reserved;
-                was.body(piece)[rng.pick(reserved)] = rng.nonzero();
+                let runs: Vec<&[usize]> = was.row().runs().collect();
+                let run = rng.pick(&runs);
+                let at = body + rng.pick(run);
+                set(piece, at, &[rng.nonzero()])
             }
-            Damage::StructureLength => {
-                let length = other(rng, STRUCTURE_LENGTH);
-                put(was.body(piece), 0, &length.to_le_bytes());
+            Damage::TwoReserved => {
+                let reserved: Vec<usize> = reserved_bytes(was.header, was.row()).collect();
+                set_two(rng, piece, &reserved)
             }
-            Damage::FrameLength => {
-                let body = was.body(piece);
-                let length = other(rng, u16_at(body, 22));
-                put(body, 22, &length.to_le_bytes());
-            }
+            Damage::StructureLength => set_other(rng, piece, body),
+            Damage::FrameLength => set_other(rng, piece, body + 22),
             Damage::OtherLength => {
                 let end = was.header.other().length() + FRAME_START;
                 let length = (was.size as u16).wrapping_sub(end as u16);
-                put(was.body(piece), 22, &length.to_le_bytes());
+                set(piece, body + 22, &length.to_le_bytes())
             }
-            Damage::DataCount => break_counts(rng, was.body(piece)),
-            Damage::ExactRate => put(was.body(piece), 136, &wrong_rate(rng).to_le_bytes()),
-            Damage::Kind => put(piece, 12, &other_kind(rng, was.kind).to_le_bytes()),
-            Damage::AnyByte => piece[rng.below(piece.len())] ^= rng.nonzero(),
-            Damage::OldPadding | Damage::HeaderCut | Damage::CutShort | Damage::LooseEnd => {}
+            Damage::BothLengths => {
+                set_other(rng, piece, body + 22);
+                set_other(rng, piece, body)
+            }
+            Damage::DataCount => {
+                break_counts(rng, &mut piece[body..]);
+                body + 24
+            }
+            Damage::ExactRate => set(piece, body + 136, &wrong_rate(rng).to_le_bytes()),
+            _ => panic!("{self:?} is no damage of the body"),
+        }
+    }
+
+    /// Does it alone decide by which number a walk is refused, and where?
+    fn decides(self, was: &Sound) -> bool {
+        match self {
+            Damage::OtherPair => !was.row().bodies.allow(was.header.other(), was.size),
+            Damage::Kind | Damage::AnyByte | Damage::CutShort => false,
+            _ => true,
+        }
+    }
+
+    /// Does the object run past the log's end?
+    fn cuts(self, was: &Sound) -> bool {
+        match self {
+            Damage::TopSize => row(was.kind).is_none(),
+            _ => matches!(self, Damage::WrapSize | Damage::HeaderCut),
         }
     }
 }
@@ -339,9 +400,9 @@ impl Sound {
         }
     }
 
-    /// Its bytes behind the header.
-    fn body<'a>(&self, piece: &'a mut [u8]) -> &'a mut [u8] {
-        &mut piece[self.header.length()..]
+    /// The row of its type, which is one of the eleven.
+    fn row(&self) -> &'static Row {
+        row(self.kind).expect("a listed type")
     }
 
     /// The size that it would have under the other header.
@@ -351,8 +412,31 @@ impl Sound {
     }
 }
 
-fn put_size(piece: &mut [u8], size: u32) {
-    put(piece, 8, &size.to_le_bytes());
+/// Puts bytes at an offset; gives it back.
+fn set(piece: &mut [u8], offset: usize, bytes: &[u8]) -> usize {
+    put(piece, offset, bytes);
+    offset
+}
+
+fn put_size(piece: &mut [u8], size: u32) -> usize {
+    set(piece, 8, &size.to_le_bytes())
+}
+
+/// Gives the u16 at an offset another value.
+fn set_other(rng: &mut Rng, piece: &mut [u8], offset: usize) -> usize {
+    let wrong = other(rng, u16_at(piece, offset));
+    set(piece, offset, &wrong.to_le_bytes())
+}
+
+/// Sets two of these bytes; gives the one that stands before the other.
+fn set_two(rng: &mut Rng, piece: &mut [u8], of: &[usize]) -> usize {
+    let first = rng.below(of.len() - 1);
+    let second = rng.from_to(first + 1, of.len() - 1);
+    let two = [of[first], of[second]];
+    for at in two {
+        piece[at] = rng.nonzero();
+    }
+    two[0].min(two[1])
 }
 
 /// A u16 unlike this one, often close to it.
@@ -370,7 +454,7 @@ fn other(rng: &mut Rng, value: u16) -> u16 {
 }
 
 fn wrong_size(rng: &mut Rng, was: &Sound) -> u32 {
-    let bodies = row(was.kind).expect("a listed type").bodies;
+    let bodies = was.row().bodies;
     loop {
         let wrong = match rng.below(5) {
             0 => was.size.wrapping_add(rng.from_to(1, 8) as u32),
@@ -467,25 +551,27 @@ fn victim(rng: &mut Rng, damage: Damage) -> Vec<u8> {
     }
 }
 
-/// A log of so many objects and a last one, then damaged in these ways; with
-/// the place of the damage: the damaged object's start, or behind its padding
-/// where zero bytes go on, or where the log was cut off, or where the loose end
-/// begins.
-fn damaged_by(rng: &mut Rng, count: usize, sound: Vec<u8>, ways: &[Damage]) -> (Vec<u8>, usize) {
+/// A log of so many objects and one more, then damaged in these ways; with the
+/// place that a walk of it tells, where the last of these ways decides that.
+fn damaged_by(
+    rng: &mut Rng,
+    count: usize,
+    sound: Vec<u8>,
+    ways: &[Damage],
+) -> (Vec<u8>, Option<usize>) {
     let before = rng.below(count + 1);
     let mut log = sound_log(rng, before);
     let was = Sound::new(&sound, log.len());
     let mut piece = padded(sound);
-    for damage in ways {
-        damage.befall(rng, &mut piece, &was);
-    }
     let mut place = was.start;
+    for damage in ways {
+        place = was.start + damage.befall(rng, &mut piece, &was);
+    }
     if ways.contains(&Damage::OldPadding) {
+        // Zeros too many are no object; behind zeros too few begins the next one, or the log ends.
         let whole = piece.len();
         piece.resize(was.size.next_multiple_of(4) as usize, 0);
-        if piece.len() > whole {
-            place += whole;
-        }
+        place = was.start + whole.min(piece.len());
     }
     log.extend(piece);
     log.extend(sound_log(rng, count - before));
@@ -500,15 +586,17 @@ fn damaged_by(rng: &mut Rng, count: usize, sound: Vec<u8>, ways: &[Damage]) -> (
     }
     if ways.contains(&Damage::CutShort) {
         log.truncate(rng.below(log.len()));
+    }
+    if ways.iter().any(|damage| damage.cuts(&was)) {
         place = log.len();
     }
-    (log, place)
+    let decided = ways.last().is_some_and(|damage| damage.decides(&was));
+    (log, decided.then_some(place))
 }
 
 /// A log of so many objects and one more, damaged in this one way; with the
-/// place of the damage: the damaged object's start, or behind its padding where
-/// zero bytes go on, or where the log was cut off, or where the loose end begins.
-pub fn damaged_log_at(rng: &mut Rng, count: usize, damage: Damage) -> (Vec<u8>, usize) {
+/// place that a walk of it tells, where the damage alone decides that.
+pub fn damaged_log_at(rng: &mut Rng, count: usize, damage: Damage) -> (Vec<u8>, Option<usize>) {
     let sound = victim(rng, damage);
     damaged_by(rng, count, sound, &[damage])
 }

@@ -20,16 +20,16 @@ loop-holds : tie.Need-loop-holds Inv-loop μ-loop
 loop-holds c = entering-none _ _ _
 
 same-length : tie.Need-same-length Inv-loop μ-loop
-same-length c = c .before .before .before .before .before .before .loop .inv .long
+same-length c = c .before .before .before .before .before .before .before .loop .inv .long
 
 returns : tie.Need-returns Inv-loop μ-loop
-returns c = list-refused _ _ _ _ _ _ (c .before .before .before .before .before .before .loop .inv) (c .before .before .before .before .before .loop-test .taken) (ap (λ (x : Step). x .answer) (sym (c .before .before .before .before .step .ensures)) ∙ c .before .answer2 .given .1)
+returns c = rw (c .ended .ensures) (list-refused _ _ _ _ _ _ (c .before .before .before .before .before .before .before .loop .inv) (c .before .before .before .before .before .before .loop-test .taken) (ap (λ (x : Step). x .answer) (sym (c .before .before .before .before .before .step .ensures)) ∙ c .before .before .answer2 .given .1))
 
 same-length-2 : tie.Need-same-length-2 Inv-loop μ-loop
-same-length-2 c = c .before .before .before .before .loop .inv .long
+same-length-2 c = c .before .before .before .before .before .loop .inv .long
 
 returns-2 : tie.Need-returns-2 Inv-loop μ-loop
-returns-2 c = list-done _ _ _ _ _ _ (c .before .before .before .before .loop .inv) (c .before .before .before .loop-test .taken) (ap (λ (x : Step). x .answer) (sym (c .before .before .step .ensures)) ∙ left _ (c .match2 .keys2) (c .before .match .keys2))
+returns-2 c = rw (c .ended2 .ensures) (list-done _ _ _ _ _ _ (c .before .before .before .before .before .loop .inv) (c .before .before .before .before .loop-test .taken) (ap (λ (x : Step). x .answer) (sym (c .before .before .before .step .ensures)) ∙ left _ (c .before .match2 .keys2) (c .before .before .match .keys2)))
 
 enter-requires : tie.Need-enter-requires Inv-loop μ-loop
 enter-requires c κs = has-room _ _ _ _ _ _ (c .before .before .before .before .before .before .loop .inv) (c .before .before .before .before .before .loop-test .taken)
@@ -41,12 +41,12 @@ loop-again : tie.Need-loop-again Inv-loop μ-loop
 loop-again c = rw (c .before .before .before .before .before .before .before .before .step .ensures, c .before .before .before .enter .ensures) (entering-more _ _ _ _ _ _ (c .before .before .before .before .before .before .before .before .before .before .loop .inv) (c .before .before .before .before .before .before .before .before .before .loop-test .taken) (ap (λ (x : Step). x .answer) (sym (c .before .before .before .before .before .before .before .before .step .ensures)) ∙ c .before .before .before .before .before .before .answer .given .1))
 
 same-length-3 : tie.Need-same-length-3 Inv-loop μ-loop
-same-length-3 c = c .before .loop .inv .long
+same-length-3 c = c .before .before .loop .inv .long
 
 returns-3 : tie.Need-returns-3 Inv-loop μ-loop
-returns-3 c = list-full _ _ _ _ _ _ (c .before .loop .inv) (c .loop-test .left)
+returns-3 c = rw (c .ended3 .ensures) (list-full _ _ _ _ _ _ (c .before .before .loop .inv) (c .before .loop-test .left))
 
 pub list-spec : {M : Type 1} → statement M
 list-spec =
     tie.close
-    (tie.spec Inv-loop μ-loop loop-holds (λ c κs. search needs) (λ c. search needs) (λ c. search needs) same-length returns same-length-2 returns-2 (λ c. search needs) enter-requires (λ c. search needs) loop-less loop-again same-length-3 returns-3)
+    (tie.spec Inv-loop μ-loop loop-holds (λ c κs. search needs) (λ c. search needs) (λ c. search needs) (λ c κs. search needs) same-length returns (λ c κs. search needs) same-length-2 returns-2 (λ c. search needs) enter-requires (λ c. search needs) loop-less loop-again (λ c κs. search needs) same-length-3 returns-3)

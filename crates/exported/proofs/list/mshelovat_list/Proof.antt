@@ -8,7 +8,7 @@ returns : tie.Need-returns
 returns c = unlisted _ _ _ _ (c .if1 .taken)
 
 returns-2 : tie.Need-returns-2
-returns-2 c = all-listed _ _ _ _ (c .before .before .before .before .before .before .before .before .if1 .left) (c .before .before .before .before .before .before .list .ensures) (c .before .before .tell-two .ensures)
+returns-2 c = all-listed _ _ _ _ (c .before .before .before .before .before .before .before .before .if1 .left) (c .before .before .before .before .before .before .list .ensures) (c .before .before .tell-three .ensures)
 
 pub mshelovat-list-spec : {M : Type 1} → statement M
 mshelovat-list-spec =
