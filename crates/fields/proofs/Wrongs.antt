@@ -17,10 +17,10 @@ use Rattle.fields.proofs.Parts.{length-part}
 use Rattle.fields.proofs.Zeros.{both-true, next-byte}
 
 -- a list's first byte that is not zero
-pub record Leads (xs : List ℕ) (n : ℕ) : Type 0 where
-  pub short : n < length xs
-  pub wrong : getD xs n 0 ≡ 0 → ⊥
-  pub before : (i : ℕ) → i < n → getD xs i 0 ≡ 0
+record Leads (xs : List ℕ) (n : ℕ) : Type 0 where
+  short : n < length xs
+  wrong : getD xs n 0 ≡ 0 → ⊥
+  before : (i : ℕ) → i < n → getD xs i 0 ≡ 0
 
 leads : (xs : List ℕ) → allZero xs ≡ false → Leads xs (leading xs)
 unfolding leading allZero
