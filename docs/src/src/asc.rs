@@ -18,9 +18,9 @@ mod read;
 
 pub use read::read_line;
 
-use crate::header::{Header, SHORT_HEADER};
+use crate::header::{body, Header, SHORT_HEADER};
 use crate::layout::*;
-use crate::object::{head_holds, step, wrong_reserved, Answer};
+use crate::object::{head_holds, step, Answer};
 use crate::records::{record_in, CanMessage, CanOverload, CanStatistic, Head, Record};
 use line::Line;
 
@@ -222,7 +222,8 @@ fn whole_line(kind: u32, object: &[u8], out: &mut [u8]) -> Result<usize, Refusal
 fn is_whole(object: &[u8], row: &Row) -> bool {
     head_holds(object)
         && u64::from(u32_at(object, 8)) == object.len() as u64
-        && wrong_reserved(object, Header::of(object), row).is_none()
+        && Header::of(object).reserved_holds(object)
+        && row.reserved_holds(body(object))
 }
 
 /// The line of the object that these bytes are, without padding. Bytes that
