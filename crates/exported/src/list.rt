@@ -21,6 +21,7 @@ struct Listed {
     place: usize,
 }
 
+// A list that ends so.
 fn ended(number: u32, count: usize, at: usize, place: usize) -> Listed
     ensures { λ r. ⌜ r ≡ record { number = number; count = count; at = at; place = place } ⌝ }
 {

@@ -1,5 +1,6 @@
 -- W-205: the first wrong byte of a list of gaps, and the first faulty field of a list of rules. They go over the lists
--- that the tests go over. `byte-exact` and `field-exact` of proofs/Wrongs say that what is computed is the first.
+-- that the tests go over. What is computed is the first: `byte-exact` of proofs/WrongBytes, `field-exact` of
+-- proofs/WrongFields.
 use Prim.Native.Nat.{ℕ, suc, _+_, _≤_, _<_}
 use mathlib.Core.Path.{_≡_}
 use mathlib.Core.Bool.{false, cond}

@@ -7,6 +7,8 @@ pub mod Standing
 pub mod Rows
 pub mod Refusals
 pub mod FieldBounds
+pub mod PlaceArms
+pub mod Reached
 pub mod PlaceLaws
 pub mod WhichByte
 pub mod TwoHeaders

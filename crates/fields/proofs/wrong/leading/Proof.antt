@@ -5,7 +5,7 @@ use native.Mathlib.Omega.{arith}
 use borrow.Author.Needs.{needs}
 use Rattle.fields.specs.Numbers.{part}
 use Rattle.fields.specs.Wrong.{leading}
-use Rattle.fields.proofs.Wrongs.{lead-on, lead-here, lead-end}
+use Rattle.fields.proofs.WrongBytes.{lead-on, lead-here, lead-end}
 use Rattle.fields.proofs.wrong.leading.Statement.{statement}
 use Rattle.fields.proofs.wrong.leading.Tie as tie
 

@@ -4,7 +4,7 @@ use Prim.Native.Nat.{ℕ, _+_}
 use borrow.Author.Needs.{needs}
 use Rattle.fields.specs.Numbers.{part}
 use Rattle.fields.specs.Wrong.{leading}
-use Rattle.fields.proofs.Wrongs.{wrong-here, wrong-later}
+use Rattle.fields.proofs.WrongBytes.{wrong-here, wrong-later}
 use Rattle.fields.proofs.wrong.wrong_byte.Statement.{statement}
 use Rattle.fields.proofs.wrong.wrong_byte.Tie as tie
 

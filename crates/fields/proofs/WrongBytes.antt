@@ -1,18 +1,19 @@
--- Where the bytes of the gaps are not all zero the place named is that of the first wrong one, and where a rule does
--- not hold that of the first faulty field. Assumes nothing.
+-- Where the bytes of the gaps are not all zero the place named is that of the first wrong one. Assumes nothing.
 use mathlib.Core.Path.{_≡_, refl, sym, ap, _∙_}
-use mathlib.Core.Bool.{Bool, true, false, cond, _&&_}
+use mathlib.Core.Bool.{Bool, true, false, cond, _&&_, true≢false}
 use mathlib.Core.Logic.{_↔_, inl, inr, ⊎-elim}
-use mathlib.Core.List.{List, [], _∷_, _++_, map}
+use mathlib.Core.List.{List, [], _∷_, _++_}
 use Prim.Native.Nat.{ℕ, zero, suc, _+_, _-_, _≤_, _<_}
+use native.Mathlib.Nat.{lt-of-not-le}
 use native.Mathlib.Omega.{arith}
-use lib.Dec.{eqb, leb, ltb}
+use lib.Dec.{eqb, leb}
 use lib.ListN.{length, drop, getD, length-take, List·getD-eq-default}
 use lib.Seq.{getD-drop, getD-take, drop-drop}
-use borrow.Author.Tests.{eq-eqb, ne-eqb, eqb-true, eqb-false, leb-true, leb-false, le-leb, ltb-true, ltb-false}
+use borrow.Author.Tests.{eq-eqb, ne-eqb, eqb-true, eqb-false, leb-true}
 use Rattle.fields.specs.Numbers.{part, allZero}
-use Rattle.fields.specs.Rules.{Gap, shifted, blank, Rule, allRight}
-use Rattle.fields.specs.Wrong.{leading, wrongIn, wrongByte, wrongField, InGap, FirstByte, Faulty, FirstField}
+use Rattle.fields.specs.Rules.{Gap, shifted, blank}
+use Rattle.fields.specs.Wrong.{leading, wrongIn, wrongByte, InGap, FirstByte}
+use Rattle.fields.proofs.Offsets.{rising, starts, neither}
 use Rattle.fields.proofs.Parts.{length-part}
 use Rattle.fields.proofs.Zeros.{both-true, next-byte}
 
@@ -24,7 +25,7 @@ record Leads (xs : List ℕ) (n : ℕ) : Type 0 where
 
 leads : (xs : List ℕ) → allZero xs ≡ false → Leads xs (leading xs)
 unfolding leading allZero
-leads [] e = absurd (let z : _≡_ {A = ℕ} 0 1 = cc in omega arith)
+leads [] e = absurd (true≢false e)
 leads (x ∷ xs) e = pick (eqb x 0) refl e (leads xs)
   where
     pick : (t : Bool) → eqb x 0 ≡ t → (t && allZero xs) ≡ false → (allZero xs ≡ false → Leads xs (leading xs)) → Leads (x ∷ xs) (cond t (suc (leading xs)) 0)
@@ -99,34 +100,7 @@ module _ (b : List ℕ) (at n later : ℕ) where
       go true e = refl
       go false e = absurd (let s = gap-short b at n e in omega arith)
 
--- offsets that rise strictly, the first at least m
-abbrev pub rising : ℕ → List ℕ → Bool
-rising m [] = true
-rising m (n ∷ ns) = leb m n && rising (suc n) ns
-
-abbrev pub starts : List Gap → List ℕ
-starts gs = map (λ g. g .at) gs
-
-abbrev pub offsets : List Rule → List ℕ
-offsets rs = map (λ r. r .at) rs
-
-pub rising-lower : (m n : ℕ) → m ≤ n → (ks : List ℕ) → rising n ks ≡ true → rising m ks ≡ true
-rising-lower m n l [] w = refl
-rising-lower m n l (k ∷ ks) w =
-    let p = both-true (leb n k) (rising (suc k) ks) w in
-    let h : n ≤ k = leb-true n k (p .0) in
-    rw (le-leb m k (omega arith)) (p .1)
-
--- gaps that stand further on rise from further on
-pub rising-shifted : (n m : ℕ) (gs : List Gap) → rising m (starts gs) ≡ true → rising (n + m) (starts (shifted n gs)) ≡ true
-rising-shifted n m [] w = refl
-rising-shifted n m (g ∷ gs) w =
-    let p = both-true (leb m (g .at)) (rising (suc (g .at)) (starts gs)) w in
-    let h : m ≤ g .at = leb-true m (g .at) (p .0) in
-    let q : suc (n + g .at) ≡ n + suc (g .at) = omega arith in
-    rw (le-leb (n + m) (n + g .at) (omega arith), q) (rising-shifted n (suc (g .at)) gs (p .1))
-
--- and are blank where they were
+-- gaps that stand further on are blank where they were
 pub blank-shifted : (n : ℕ) (gs : List Gap) (b : List ℕ) → blank (shifted n gs) b ≡ blank gs (drop n b)
 blank-shifted n [] b = refl
 blank-shifted n (g ∷ gs) b = rw (drop-drop, blank-shifted n gs b)
@@ -155,7 +129,7 @@ above (g ∷ gs) m w i (inr h) =
 
 first-byte : (gs : List Gap) (b : List ℕ) (m later : ℕ) → rising m (starts gs) ≡ true → blank gs b ≡ false → FirstByte gs b (wrongByte gs b later)
 unfolding wrongIn
-first-byte [] b m later w e = absurd (let z : _≡_ {A = ℕ} 0 1 = cc in omega arith)
+first-byte [] b m later w e = absurd (true≢false e)
 first-byte (g ∷ gs) b m later w e =
     let p = both-true (leb m (g .at)) (rising (suc (g .at)) (starts gs)) w in
     pick (allZero (part (g .many) b (g .at))) refl e (above gs (suc (g .at)) (p .1)) (first-byte gs b (suc (g .at)) later (p .1))
@@ -188,12 +162,7 @@ blank-zero (g ∷ gs) b e i (inl h) = gap-zero b (g .at) (g .many) (both-true (a
 blank-zero (g ∷ gs) b e i (inr h) = blank-zero gs b (both-true (allZero (part (g .many) b (g .at))) (blank gs b) e .1) i h
 
 one-byte : (gs : List Gap) (b : List ℕ) (p q : ℕ) → FirstByte gs b p → FirstByte gs b q → p ≡ q
-one-byte gs b p q f h = go (ltb p q) (ltb q p) refl refl
-  where
-    go : (x y : Bool) → ltb p q ≡ x → ltb q p ≡ y → p ≡ q
-    go true y k l = absurd (f .wrong (h .before p (f .inside) (ltb-true p q k)))
-    go false true k l = absurd (h .wrong (f .before q (h .inside) (ltb-true q p l)))
-    go false false k l = let a = ltb-false p q k in let c = ltb-false q p l in omega arith
+one-byte gs b p q f h = neither (λ l. f .wrong (h .before p (f .inside) l)) (λ l. h .wrong (f .before q (h .inside) l))
 
 -- the theorem: the test fails and names a place exactly where that is the first wrong byte
 pub byte-exact : (gs : List Gap) (b : List ℕ) (p later : ℕ) → rising 0 (starts gs) ≡ true → ((blank gs b ≡ false) × (wrongByte gs b later ≡ p)) ↔ FirstByte gs b p
@@ -205,65 +174,4 @@ byte-exact gs b p later w = (λ c. rw (← c .1) (first-byte gs b 0 later w (c .
 
 -- a byte that is not zero lies in the list
 pub byte-within : {gs : List Gap} {b : List ℕ} {p : ℕ} → FirstByte gs b p → p < length b
-byte-within {gs} {b} {p} f = go (leb (length b) p) refl
-  where
-    go : (t : Bool) → leb (length b) p ≡ t → p < length b
-    go true e = absurd (f .wrong (List·getD-eq-default b 0 (leb-true (length b) p e)))
-    go false e = omega (arith, leb-false (length b) p e)
-
--- fields in turn
-behind : (rs : List Rule) (m : ℕ) → rising m (offsets rs) ≡ true → (i : ℕ) → Faulty i rs → m ≤ i
-behind [] m w i h = absurd h
-behind (r ∷ rs) m w i (inl h) = let l : m ≤ r .at = leb-true _ _ (both-true _ _ w .0) in omega (arith, h .0)
-behind (r ∷ rs) m w i (inr h) =
-    let p = both-true (leb m (r .at)) (rising (suc (r .at)) (offsets rs)) w in
-    let l : m ≤ r .at = leb-true _ _ (p .0) in
-    let k = behind rs (suc (r .at)) (p .1) i h in
-    omega arith
-
-first-field : (rs : List Rule) (m : ℕ) → rising m (offsets rs) ≡ true → allRight rs ≡ false → FirstField rs (wrongField rs)
-first-field [] m w e = absurd (let z : _≡_ {A = ℕ} 0 1 = cc in omega arith)
-first-field (r ∷ rs) m w e =
-    let p = both-true (leb m (r .at)) (rising (suc (r .at)) (offsets rs)) w in
-    pick (r .right) refl e (behind rs (suc (r .at)) (p .1)) (first-field rs (suc (r .at)) (p .1))
-  where
-    pick : (t : Bool) → r .right ≡ t → (t && allRight rs) ≡ false
-        → ((i : ℕ) → Faulty i rs → suc (r .at) ≤ i) → (allRight rs ≡ false → FirstField rs (wrongField rs))
-        → FirstField (r ∷ rs) (cond t (wrongField rs) (r .at))
-    pick true q e a i =
-        let f = i e in
-        record {
-          faulty = inr (f .faulty);
-          before = λ j l. ⊎-elim
-              (λ (h : (r .at ≡ j) × (r .right ≡ false)). let z : _≡_ {A = Bool} true false = sym q ∙ h .1 in let k : _≡_ {A = ℕ} 0 1 = cc in omega arith)
-              (λ (h : Faulty j rs). f .before j l h);
-        }
-    pick false q e a i =
-        record {
-          faulty = inl (refl, q);
-          before = λ j l. ⊎-elim (λ (h : (r .at ≡ j) × (r .right ≡ false)). omega (arith, h .0)) (λ (h : Faulty j rs). let k = a j h in omega arith);
-        }
-
-right-none : (rs : List Rule) → allRight rs ≡ true → (i : ℕ) → Faulty i rs → ⊥
-right-none [] e i h = h
-right-none (r ∷ rs) e i (inl h) =
-    let z : _≡_ {A = Bool} true false = sym (both-true (r .right) (allRight rs) e .0) ∙ h .1 in
-    let k : _≡_ {A = ℕ} 0 1 = cc in
-    omega arith
-right-none (r ∷ rs) e i (inr h) = right-none rs (both-true (r .right) (allRight rs) e .1) i h
-
-one-field : (rs : List Rule) (p q : ℕ) → FirstField rs p → FirstField rs q → p ≡ q
-one-field rs p q f h = go (ltb p q) (ltb q p) refl refl
-  where
-    go : (x y : Bool) → ltb p q ≡ x → ltb q p ≡ y → p ≡ q
-    go true y k l = absurd (h .before p (ltb-true p q k) (f .faulty))
-    go false true k l = absurd (f .before q (ltb-true q p l) (h .faulty))
-    go false false k l = let a = ltb-false p q k in let c = ltb-false q p l in omega arith
-
--- the theorem: a rule does not hold and a field is named exactly where that is the first faulty field
-pub field-exact : (rs : List Rule) (p : ℕ) → rising 0 (offsets rs) ≡ true → ((allRight rs ≡ false) × (wrongField rs ≡ p)) ↔ FirstField rs p
-field-exact rs p w = (λ c. rw (← c .1) (first-field rs 0 w (c .0)), λ f. go f (allRight rs) refl)
-  where
-    go : FirstField rs p → (t : Bool) → allRight rs ≡ t → (allRight rs ≡ false) × (wrongField rs ≡ p)
-    go f true e = absurd (right-none rs e p (f .faulty))
-    go f false e = (e, one-field rs (wrongField rs) p (first-field rs 0 w e) f)
+byte-within {b = b} f = lt-of-not-le (λ l. f .wrong (List·getD-eq-default b 0 l))
