@@ -3,12 +3,14 @@
  *   mshelovat list LOG, mshelovat check LOG BUNDLE: what the lister and the desk program print.
  *   mshelovat asc LOG: the lines of the log's CAN objects; a refusal goes to standard error.
  *   mshelovat asc-read FILE: what each line of a file tells, or that it is refused.
+ *   mshelovat ring FIRST SECOND [--scratch N]: what `list` prints of the two files joined, with where each object lies;
+ *     one that lies in both is copied to a scratch of N bytes.
  *
  * Exit status: 0 accepted, 1 refused, 2 where the usage is wrong, a file can't be read or the output can't be written.
  * No file may be cut while it is read. */
 #include "host.h"
 
-static int refused(uint32_t number, uint64_t place)
+int refused(uint32_t number, uint64_t place)
 {
     printf("refused %u at %lu\n", number, place);
     return 1;
@@ -61,11 +63,36 @@ static const struct word words[] = {
     {"check", 2, check, 0},
     {"asc", 1, asc, 1},
     {"asc-read", 1, asc_read, 1},
+    {"ring", 2, ring, 0},
 };
+
+/* A number in decimal digits; one that has no room is the greatest. 0 where it is none. */
+static int number_of(const char *text, size_t *number)
+{
+    *number = 0;
+    for (const char *p = text; *p; p++) {
+        size_t digit = (size_t)*p - '0';
+        if (digit > 9)
+            return 0;
+        *number = *number > (SIZE_MAX - digit) / 10 ? SIZE_MAX : 10 * *number + digit;
+    }
+    return *text != 0;
+}
+
+/* Takes `--scratch N` off the end, which the word for a ring alone may have there. 0 where N is no number. */
+static int take_scratch(int *argc, char **argv)
+{
+    if (*argc != 6 || strcmp(argv[1], "ring") != 0 || strcmp(argv[4], "--scratch") != 0)
+        return 1;
+    *argc = 4;
+    return number_of(argv[5], &scratch_asked);
+}
 
 /* The word with as many files as it takes; 0 where the usage is wrong. */
 static const struct word *asked(int argc, char **argv)
 {
+    if (!take_scratch(&argc, argv))
+        return 0;
     for (size_t i = 0; i < sizeof words / sizeof *words; i++)
         if (argc == 2 + words[i].files && strcmp(argv[1], words[i].name) == 0)
             return &words[i];
@@ -79,7 +106,7 @@ int main(int argc, char **argv)
     int status = 2;
     if (!word) {
         fprintf(stderr, "usage: mshelovat list LOG | mshelovat check LOG BUNDLE | "
-                        "mshelovat asc LOG | mshelovat asc-read FILE\n");
+                        "mshelovat asc LOG | mshelovat asc-read FILE | mshelovat ring FIRST SECOND [--scratch N]\n");
         return 2;
     }
     shown = isatty(2) && (word->work == check || !isatty(1)); /* lines at a terminal show it themselves */

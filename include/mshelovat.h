@@ -3,9 +3,9 @@
  *
  * Each call returns a number and writes its values to the front of the numbers lent to it; what stands behind them
  * stays as it was, and so it is with lent bytes and entries. Numbers: 0 is yes; 1 to 9 refuse the log, 7, 9, 10 and 11
- * a write, 20 to 28 the slips and 30, MSHELOVAT_LINE, a text, as docs/FORMAT.md lists them; MSHELOVAT_ROOM says that
- * too few numbers were lent, or too few bytes: where too few numbers, nothing is written; MSHELOVAT_DONE is the log's
- * end, MSHELOVAT_OTHER an object of another type.
+ * a write, 20 to 28 the slips, 12, MSHELOVAT_SCRATCH, and 28 a step over a ring, and 30, MSHELOVAT_LINE, a text, as
+ * docs/FORMAT.md lists them; MSHELOVAT_ROOM says that too few numbers were lent, or too few bytes: where too few
+ * numbers, nothing is written; MSHELOVAT_DONE is the log's end, MSHELOVAT_OTHER an object of another type.
  *
  * The place of 1 to 9 is the byte of the log at fault: the first of the wrong field, or the first wrong one of reserved
  * bytes and padding; for 1 it is the position, for 5 the log's length (docs/FORMAT.md, "Order and place"). The position
@@ -22,12 +22,19 @@
 #include <stdint.h>
 
 #define MSHELOVAT_ROOM 10
+#define MSHELOVAT_SCRATCH 12
 #define MSHELOVAT_LINE 30
 #define MSHELOVAT_DONE 100
 #define MSHELOVAT_OTHER 101
 
 /* The places of mshelovat_step's values. */
 enum { MSHELOVAT_START, MSHELOVAT_SIZE, MSHELOVAT_KIND, MSHELOVAT_NEXT, MSHELOVAT_STEP };
+
+/* The place of what mshelovat_ring_step tells behind these four, where the object lies; and how many it tells. */
+enum { MSHELOVAT_LIES = MSHELOVAT_STEP, MSHELOVAT_RING_STEP };
+
+/* What stands there: in the first segment, in the second, or in both; 0 where there is no object. */
+enum { MSHELOVAT_FIRST = 1, MSHELOVAT_SECOND, MSHELOVAT_BOTH };
 
 /* How many numbers an entry of mshelovat_list has, in the same order: start, size, type. */
 enum { MSHELOVAT_ENTRY = 3 };
@@ -91,6 +98,22 @@ uint32_t mshelovat_step(const uint8_t *log, size_t log_length, size_t at, uint64
  * 1 to 9: the object at that position is refused, and out[2] is the byte at fault; those before it are listed. */
 uint32_t mshelovat_list(const uint8_t *log, size_t log_length, size_t at, uint64_t *entries, size_t entries_count,
                         uint64_t *out, size_t out_count);
+
+/* The object at position `at`, which may be any number, of a log in two segments, the older first, as a ring memory
+ * hands it over. Positions and places count in the joined log, and all is as mshelovat_step tells it of that log, but
+ * for two refusals. Either segment may be empty. Lend five numbers.
+ * 0: out is its start, its size without padding, its type, the position behind its padding, and where it lies:
+ *   MSHELOVAT_FIRST: whole in the first segment, from first[start] on;
+ *   MSHELOVAT_SECOND: whole in the second, from second[start - first_length] on;
+ *   MSHELOVAT_BOTH: it begins in the first and ends in the second, and is copied to the front of `scratch`.
+ * MSHELOVAT_DONE: `at` is exactly the joined log's end; out is at, 0, 0, at, 0.
+ * 28: the joined log has 4,294,967,296 bytes or more; out is 0, 0, 0, at, 0.
+ * 1 to 9: the object is refused; out is the byte at fault, 0, 0, at, 0.
+ * MSHELOVAT_SCRATCH: 1 to 6 let it through, it lies in both segments and is longer than `scratch`; out is its start, 0,
+ * 0, at, 0.
+ * Nothing but the copy is written to `scratch`, and that only where 0 is told. */
+uint32_t mshelovat_ring_step(const uint8_t *first, size_t first_length, const uint8_t *second, size_t second_length,
+                             size_t at, uint8_t *scratch, size_t scratch_length, uint64_t *out, size_t out_count);
 
 /* Whether the slips of the bundle name the objects of the log, each exactly once. Returns 0 and out[0] is the count of
  * objects; or 28, 20 to 24, 1 to 9, 25 to 27, and out[0] is the place: in the bundle for 20 to 24, else in the log.

@@ -9,7 +9,10 @@
 #define O_NONBLOCK 04000
 #define SEEK_END 2
 #define PROT_READ 1
+#define PROT_WRITE 2
 #define MAP_PRIVATE 2
+#define MAP_ANONYMOUS 0x20
+#define MAP_NORESERVE 0x4000
 #define MAP_FAILED ((void *)-1)
 
 int open(const char *name, int flags, ...);

@@ -1,4 +1,4 @@
-/* What include/mshelovat.h takes of this header; the kit has none. */
+/* What the host and include/mshelovat.h take of this header; the kit has none. */
 #ifndef HOST_STDINT_H
 #define HOST_STDINT_H
 
@@ -6,5 +6,8 @@ typedef __UINT8_TYPE__ uint8_t;
 typedef __UINT16_TYPE__ uint16_t;
 typedef __UINT32_TYPE__ uint32_t;
 typedef __UINT64_TYPE__ uint64_t;
+
+#define UINT32_MAX __UINT32_MAX__
+#define SIZE_MAX __SIZE_MAX__
 
 #endif

@@ -1,12 +1,13 @@
 // Cases one after another from an input, and their replies to an output.
 use crate::lines::line;
+use crate::rings::tell_ring;
 use crate::told::tell_text;
 ghost use Prim.Native.Nat.{_≤_, _+_, _*_};
 ghost use mathlib.Core.Path.{_≡_};
 ghost use lib.ListN.{length};
 
 // The most bytes of a part, and of a room.
-const LIMIT: usize = 4096;
+pub const LIMIT: usize = 4096;
 
 // Room for the largest case; and for a reply, whose word and numbers stand before the room of a case.
 fn space() -> [u8; 8209]
@@ -90,6 +91,9 @@ fn tell(output: i32, case: &[u8], out: &mut [u8]) -> bool
     }
     if question == 3 {
         return tell_text(output, &case[17..end]);
+    }
+    if question > 4 {
+        return tell_ring(output, question, number, case, end, out);
     }
     let mut second = 0;
     if case.len() - end == 4 {

@@ -1,11 +1,12 @@
-// Runs document 01's examples of reading and writing that are not marked, and those of W-202, W-204 and W-205, over the
-// proved calls, and prints what came out: a line an example. Those of slips, frames and foreign objects stand in
-// `slip_examples`.
+// Runs document 01's examples of reading and writing that are not marked, and those of W-202, W-204, W-205 and W-206,
+// over the proved calls, and prints what came out: a line an example. Those of slips, frames and foreign objects stand
+// in `slip_examples`.
 mod left_over;
 mod reading;
 mod samples;
 mod second_header;
 mod tell;
+mod two_segments;
 mod which_byte;
 mod writing;
 
@@ -40,4 +41,7 @@ fn main() {
     which_byte::padding();
     which_byte::lengths();
     which_byte::counts();
+    two_segments::cuts();
+    two_segments::orders();
+    two_segments::padding();
 }

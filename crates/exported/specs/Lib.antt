@@ -2,3 +2,4 @@ pub mod Replies
 pub mod Records
 pub mod Lists
 pub mod Lines
+pub mod Rings

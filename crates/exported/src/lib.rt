@@ -3,6 +3,7 @@
 mod line;
 mod list;
 mod record;
+mod rings;
 
 pub use line::mshelovat_line;
 pub use line::mshelovat_line_at;
@@ -13,6 +14,7 @@ use objects::Cursor;
 use objects::Walked;
 pub use record::mshelovat_read;
 pub use record::mshelovat_write;
+pub use rings::mshelovat_ring_step;
 use slips::Verdict;
 ghost use mathlib.Core.Path.{_≡_};
 ghost use mathlib.Core.List.{[], _∷_};

@@ -1,12 +1,12 @@
 -- The wrong programs are refuted: on each row a computed test finds two answers that differ, and a program that met its
 -- contract would pass it. Assumes nothing.
 use Prim.Native.Nat.{ℕ}
-use mathlib.Core.Path.{_≡_, refl, ap}
+use mathlib.Core.Path.{_≡_, refl, ap, ap₂}
 use mathlib.Core.Bool.{Bool, true, false, not, _&&_}
-use mathlib.Core.List.{List, [], _∷_}
+use mathlib.Core.List.{List, [], _∷_, _++_}
 use native.Mathlib.Omega.{arith}
 use borrow.Author.Tests.{eq-eqb, not-true}
-use lib.ListN.{length}
+use lib.ListN.{length, take, drop}
 use lib.Dec.{eqb}
 use Rattle.fields.specs.Numbers.{val, num, big, nums, allZero}
 use Rattle.fields.specs.Digits.{le}
@@ -33,6 +33,12 @@ use Rattle.objects.specs.Faults.{gapsOf}
 use Rattle.objects.specs.Next.{faultOf, placeIn, answered, nextAt}
 use Rattle.objects.specs.Stepping.{metAt}
 use Rattle.objects.specs.Walk.{walkOf}
+use Rattle.segments.specs.Joined.{crosses}
+use Rattle.ring.specs.declared.RingAnswer.{RingAnswer}
+use Rattle.ring.specs.declared.RingAnswer.the-variants as rings
+use Rattle.ring.specs.declared.RingStep.{RingStep}
+use Rattle.ring.specs.Ring.{fits, ringFault, ringPlace, placed, ringAnswered, ringOn, ringAt}
+use Rattle.ring.specs.Handed.{scratchAt, ringViewAt}
 use Rattle.outcomes.specs.declared.Written.the-variants as written
 use Rattle.outcomes.specs.Reads.{lookAt, recordIn, recordAt}
 use Rattle.outcomes.specs.Writes.{refusalOf, bufferOf}
@@ -45,7 +51,7 @@ use Rattle.slips.specs.Check.{checkOf}
 use Rattle.marked_examples.specs.Hex.{hex}
 use Rattle.marked_examples.specs.Marked.{m2, m9, m11}
 use Rattle.wrong_programs.specs.Samples.{seventeen, nineteen, unclean, wrapping, lin168, second, m12, otherSize, otherType, strayAndTwice, paddedSize}
-use Rattle.wrong_programs.specs.Wrong.{Trial, step, walk, read, write, check, Meets, Wrong, wrongs, AllRefuted}
+use Rattle.wrong_programs.specs.Wrong.{Trial, step, walk, read, write, check, ring, view, Meets, Wrong, wrongs, AllRefuted}
 
 -- answers as numbers
 
@@ -65,6 +71,16 @@ abbrev verdictAs : Verdict → List ℕ
 verdictAs (verdict.Accepted n) = 0 ∷ n ∷ []
 verdictAs (verdict.Refused number place) = 1 ∷ number ∷ place ∷ []
 
+abbrev ringAs : RingAnswer → List ℕ
+ringAs (rings.First start size kind) = 1 ∷ start ∷ size ∷ kind ∷ []
+ringAs (rings.Second start size kind) = 2 ∷ start ∷ size ∷ kind ∷ []
+ringAs (rings.Copied start size kind) = 3 ∷ start ∷ size ∷ kind ∷ []
+ringAs rings.Done = 4 ∷ []
+ringAs (rings.Refused number place) = 5 ∷ number ∷ place ∷ []
+
+abbrev ringedAs : RingStep → List ℕ → List ℕ
+ringedAs s x = (s .next .at ∷ ringAs (s .answer)) ++ x
+
 -- the program's answer, and what the contract asks for
 abbrev given : Trial → List ℕ
 given (step p log at) = stepAs (p log at)
@@ -72,6 +88,8 @@ given (walk p log) = walkedAs (p log)
 given (read k apart p log at) = apart (p log at) ∷ []
 given (write p i out) = p i out .1
 given (check p log bundle) = verdictAs (p log bundle)
+given (ring p log cut at x) = ringedAs (p (take cut log) (drop cut log) at x .0) (p (take cut log) (drop cut log) at x .1)
+given (view p log cut at) = p (take cut log) (drop cut log) at
 
 abbrev asked : Trial → List ℕ
 asked (step p log at) = stepAs (nextAt log at)
@@ -79,6 +97,8 @@ asked (walk p log) = walkedAs (walkOf log)
 asked (read k apart p log at) = apart (recordAt k log at) ∷ []
 asked (write p i out) = bufferOf (refusalOf i (length out)) (padded i) out
 asked (check p log bundle) = verdictAs (checkOf log bundle)
+asked (ring p log cut at x) = ringedAs (ringAt (take cut log) (drop cut log) at (length x)) (scratchAt (take cut log) (drop cut log) at x)
+asked (view p log cut at) = ringViewAt (take cut log) (drop cut log) at
 
 meets-same : (t : Trial) → Meets t → given t ≡ asked t
 meets-same (step p log at) e = ap stepAs e
@@ -86,6 +106,8 @@ meets-same (walk p log) e = ap walkedAs e
 meets-same (read k apart p log at) m = ap (λ r. apart r ∷ []) (m .value)
 meets-same (write p i out) m = m .buffer
 meets-same (check p log bundle) e = ap verdictAs e
+meets-same (ring p log cut at x) m = ap₂ ringedAs (m .0) (m .1)
+meets-same (view p log cut at) e = e
 
 same : List ℕ → List ℕ → Bool
 same [] [] = true
@@ -118,7 +140,7 @@ refuted (w ∷ ws) e =
     (differ (w .tried) (not-true _ (h .0)), refuted ws (h .1))
 
 computed : noneSame wrongs ≡ true
-unfolding noneSame same wrongs m2 m9 m11 m12 seventeen nineteen unclean wrapping lin168 second otherSize otherType strayAndTwice paddedSize hex walkOf metAt nextAt answered faultOf placeIn gapsOf reservedOf wrongIn leading find isFirst isSecond lengthAt originAt headerOf unitOk headerBlank typeList rowIn allowed pairOk lengthFits first padding num val nums le allZero lookAt recordIn recordAt overloadOf tailOf messageOf header.object header.lengthBy header.headerBy header.head slots.bytesOf overloadSlots bytesOf refusalOf checkOf cutOf cut.faultOf shapeOk big troubleOf
+unfolding noneSame same wrongs m2 m9 m11 m12 seventeen nineteen unclean wrapping lin168 second otherSize otherType strayAndTwice paddedSize hex walkOf metAt nextAt answered faultOf placeIn gapsOf reservedOf wrongIn leading find isFirst isSecond lengthAt originAt headerOf unitOk headerBlank typeList rowIn allowed pairOk lengthFits first padding num val nums le allZero lookAt recordIn recordAt overloadOf tailOf messageOf header.object header.lengthBy header.headerBy header.head slots.bytesOf overloadSlots bytesOf refusalOf checkOf cutOf cut.faultOf shapeOk big troubleOf ringAt ringOn ringAnswered ringFault ringPlace placed fits crosses scratchAt ringViewAt
 computed = refl
 
 pub all-refuted : AllRefuted wrongs

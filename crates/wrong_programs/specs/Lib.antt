@@ -2,4 +2,5 @@ pub mod Samples
 pub mod Readers
 pub mod Records
 pub mod Checks
+pub mod Rings
 pub mod Wrong

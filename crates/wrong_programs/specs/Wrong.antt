@@ -1,11 +1,11 @@
--- 01, "What a reader of the contracts must find" and "Slips of the pen", those of W-202, W-204 and W-205: the wrong
--- programs, each beside an input on which its contract does not hold. `all-refuted` of proofs/Refuted says so of every
--- row.
+-- 01, "What a reader of the contracts must find" and "Slips of the pen", those of W-202, W-204, W-205 and W-206: the
+-- wrong programs, each beside an input on which its contract does not hold. `all-refuted` of proofs/Refuted says so of
+-- every row.
 use Prim.Native.Nat.{ℕ}
 use Prim.Native.String.{String}
 use mathlib.Core.Path.{_≡_}
 use mathlib.Core.List.{List, [], _∷_, _++_}
-use lib.ListN.{set}
+use lib.ListN.{length, take, drop, set, replicate}
 use Rattle.fields.specs.Numbers.{zeros}
 use Rattle.lin.specs.declared.tail.Tail.{Tail}
 use Rattle.lin.specs.declared.tail.Tail.the-variants.{Nothing, Response, Rates}
@@ -16,6 +16,8 @@ use Rattle.objects.specs.Kinds.{Record}
 use Rattle.objects.specs.Items.{Item, known}
 use Rattle.objects.specs.Next.{nextAt}
 use Rattle.objects.specs.Walk.{walkOf}
+use Rattle.ring.specs.Ring.{ringAt}
+use Rattle.ring.specs.Handed.{scratchAt, ringViewAt}
 use Rattle.outcomes.specs.declared.Written.{Written}
 use Rattle.outcomes.specs.Reads.{lookAt, recordAt, Reads}
 use Rattle.outcomes.specs.Writes.{Outcome}
@@ -27,6 +29,8 @@ use Rattle.wrong_programs.specs.Readers as readers
 use Rattle.wrong_programs.specs.Readers.{walkBy}
 use Rattle.wrong_programs.specs.Records as records
 use Rattle.wrong_programs.specs.Checks as checks
+use Rattle.wrong_programs.specs.Rings as rings
+use Rattle.wrong_programs.specs.Rings.{Program}
 
 -- a program and what it is tried on
 pub data Trial : Type 0 where
@@ -36,6 +40,9 @@ pub data Trial : Type 0 where
   read : (k : Kind) → (Record k → ℕ) → (List ℕ → ℕ → Record k) → List ℕ → ℕ → Trial
   write : (Item → List ℕ → Written × List ℕ) → Item → List ℕ → Trial
   check : (List ℕ → List ℕ → Verdict) → List ℕ → List ℕ → Trial
+  -- a log, where it is cut, a position and a scratch
+  ring : Program → List ℕ → ℕ → ℕ → List ℕ → Trial
+  view : (List ℕ → List ℕ → ℕ → List ℕ) → List ℕ → ℕ → ℕ → Trial
 
 -- what the contract of the call says of it
 abbrev pub Meets : Trial → Type 0
@@ -44,6 +51,10 @@ Meets (walk p log) = p log ≡ walkOf log
 Meets (read k apart p log at) = Reads k log at (lookAt log at (numberOf k) .told) (nextAt log at .next) (p log at)
 Meets (write p i out) = Outcome i (p i out .0) out (p i out .1)
 Meets (check p log bundle) = p log bundle ≡ checkOf log bundle
+Meets (ring p log cut at x) =
+    (p (take cut log) (drop cut log) at x .0 ≡ ringAt (take cut log) (drop cut log) at (length x))
+    × (p (take cut log) (drop cut log) at x .1 ≡ scratchAt (take cut log) (drop cut log) at x)
+Meets (view p log cut at) = p (take cut log) (drop cut log) at ≡ ringViewAt (take cut log) (drop cut log) at
 
 -- which of its three ends a LIN message has
 abbrev pub endOf : Tail → ℕ
@@ -90,6 +101,14 @@ wrongs =
     ∷ wrong "6 at the padding's first byte, whichever is wrong" (step readers.atPadding (set nineteen 20 1) 0)
     ∷ wrong "8 of the body before 8 of the header" (step readers.bodyFirst (set (set second 21 1) 42 1) 0)
     ∷ wrong "8 of the body counted behind a first header always" (step readers.firstHeaders (set second 42 1) 0)
+    ∷ wrong "12 tested with the padding" (ring rings.withPadding nineteen 10 0 (zeros 19))
+    ∷ wrong "12 tried behind 9" (ring rings.scratchLast (set m2 34 1) 20 0 (zeros 35))
+    ∷ wrong "an object copied whose padding alone crosses" (ring rings.paddingCrosses nineteen 20 0 (zeros 19))
+    ∷ wrong "an object that starts at the seam told as the first segment's" (ring rings.seamInFirst (m2 ++ m2) 36 36 [])
+    ∷ wrong "places counted from the second segment's start" (ring rings.ownPlaces (m2 ++ set m2 34 1) 36 36 [])
+    ∷ wrong "the copy made before 7 to 9" (ring rings.copiesEarly (set m2 34 1) 20 0 (zeros 36))
+    ∷ wrong "the rest of the scratch cleared" (ring rings.clears m9 8 0 (replicate 17 7))
+    ∷ wrong "the view of an object that crosses" (view rings.viewCut m9 8 0)
     ∷ wrong "a check that refuses everything" (check checks.refusesAll (m2 ++ m2) m11)
     ∷ wrong "a check that accepts everything" (check checks.acceptsAll (m2 ++ m2) [])
     ∷ wrong "a check that compares the first slip only" (check checks.firstSlipOnly (m2 ++ m2) m12)

@@ -1,4 +1,5 @@
-//! Compares the proved calls with the independent reader, and times walk, check and ASC lines beside it, on 64 MiB.
+//! Compares the proved calls with the independent reader, and times walk, check, ASC lines and steps over a ring beside
+//! it, on 64 MiB.
 //! `docs/speed` builds and runs it: it needs the archive of `exported` for this processor, which `docs/native-object`
 //! makes.
 
@@ -8,8 +9,8 @@ mod timed {
     use mshelovat_reference::header::Header::{self, First, Second};
     use mshelovat_reference::layout::{self, number, Refusal};
     use mshelovat_reference::library::{self, End, Read};
-    use mshelovat_reference::object::{self, Answer};
-    use mshelovat_reference::{records, slips};
+    use mshelovat_reference::object::{self, Answer, Object};
+    use mshelovat_reference::{records, ring, slips};
     use std::collections::BTreeSet;
     use std::hint::black_box;
     use std::time::Instant;
@@ -176,11 +177,38 @@ mod timed {
         plain.map_or_else(|r| r.number, |_| 0)
     }
 
-    /// The two agree on logs, bundles, objects and lines, sound and damaged.
+    /// The size that the object at a position tells, no more than the log's; 0 where no object can be.
+    fn told_size(log: &[u8], at: usize) -> usize {
+        match log.get(at..) {
+            Some(tail) if tail.len() >= 16 => (layout::u32_at(tail, 8) as usize).min(log.len()),
+            _ => 0,
+        }
+    }
+
+    /// The two agree on a step over a log that is cut in two, mostly within the object at the position; gives the
+    /// number. The segments stand apart from each other and from the scratch.
+    fn agree_ring(rng: &mut Rng, log: &[u8], at: usize) -> u8 {
+        let size = told_size(log, at);
+        let (any, within) = (rng.below(log.len() + 1), rng.below(size + 4));
+        let within = at.saturating_add(within).min(log.len());
+        let cut = rng.pick(&[any, within, within]);
+        let (first, second) = (log[..cut].to_vec(), log[cut..].to_vec());
+        let less = rng.below(size + 1);
+        let n = rng.pick(&[0, size.saturating_sub(1), size, size, size + 1, less]);
+        let plain = lent(7, n, |s| ring::step(&first, &second, at, s));
+        let proved = lent(7, n, |s| library::ring_step(&first, &second, at, s));
+        assert_eq!(proved, plain);
+        match plain.0 {
+            ring::Answer::Refused(r) => r.number,
+            _ => 0,
+        }
+    }
+
+    /// The two agree on logs, bundles, objects, lines and rings, sound and damaged.
     fn agree(cases: usize) {
         let rng = &mut Rng(29);
-        let [mut checked, mut written, mut placed, mut lines, mut texts] =
-            [const { BTreeSet::new() }; 5];
+        let [mut checked, mut written, mut placed, mut lines, mut texts, mut rings] =
+            [const { BTreeSet::new() }; 6];
         for _ in 0..cases {
             let count = rng.below(7);
             let log = gen::any_log(rng, count);
@@ -199,13 +227,17 @@ mod timed {
             let (number, line) = agree_line(rng);
             lines.insert(number);
             texts.insert(agree_read_line(rng, line));
+            rings.insert(agree_ring(rng, &log, 0));
+            rings.insert(agree_ring(rng, &log, at));
         }
         assert!(lines.contains(&number::UNIT) && lines.contains(&number::ROOM));
         assert!(placed.contains(&number::UNIT) && placed.contains(&number::ROOM));
         assert!(texts.contains(&0) && texts.contains(&number::LINE));
-        println!("{cases} logs, bundles, objects and lines: the same answers");
+        assert!(rings.contains(&0) && rings.contains(&number::SCRATCH));
+        println!("{cases} logs, bundles, objects, lines and rings: the same answers");
         println!("numbers of the check {checked:?}, of the write {written:?}");
-        println!("numbers of the line {lines:?}, at a position {placed:?}, read {texts:?}\n");
+        println!("numbers of the line {lines:?}, at a position {placed:?}, read {texts:?}");
+        println!("numbers of a step over a ring {rings:?}\n");
     }
 
     const LOG: usize = 64 << 20;
@@ -422,6 +454,83 @@ mod timed {
         print(&what, text.len(), n, a, b, memory);
     }
 
+    /// What is told of an object, as one number.
+    fn told_of(object: Object) -> u64 {
+        object.start as u64 + u64::from(object.size) + u64::from(object.kind)
+    }
+
+    /// Every object of a ring, one after the other: the sum of what is told of each.
+    fn ring_steps(
+        (first, second): (&[u8], &[u8]),
+        step: impl Fn(&[u8], &[u8], usize, &mut [u8]) -> ring::Answer,
+    ) -> u64 {
+        let mut scratch = [0; 2_048];
+        let (mut at, mut sum) = (0, 0u64);
+        loop {
+            let (object, lies) = match step(first, second, at, &mut scratch) {
+                ring::Answer::First(object) => (object, 1),
+                ring::Answer::Second(object) => (object, 2),
+                ring::Answer::Copied(object) => (object, 3),
+                ring::Answer::Done => break,
+                ring::Answer::Refused(refusal) => panic!("{refusal:?} in a sound log"),
+            };
+            sum = sum.wrapping_add(told_of(object) + lies);
+            at = object.next;
+        }
+        black_box(&scratch);
+        sum
+    }
+
+    /// The same of a joined log.
+    fn log_steps(log: &[u8], step: impl Fn(&[u8], usize) -> Answer) -> u64 {
+        let (mut at, mut sum) = (0, 0u64);
+        loop {
+            match step(log, at) {
+                Answer::Object(object) => {
+                    sum = sum.wrapping_add(told_of(object));
+                    at = object.next;
+                }
+                Answer::Done => return sum,
+                Answer::Refused(refusal) => panic!("{refusal:?} in a sound log"),
+            }
+        }
+    }
+
+    /// Times the proved steps over a ring, which is a log cut in its middle, beside the same steps by the independent
+    /// reader and beside other ways through the joined log. What a row's name has behind "beside" stands in the second
+    /// column of times, proved or not.
+    fn time_ring(name: &str, pieces: &[Vec<u8>]) {
+        let log = log_of(pieces, &mut Rng(17));
+        let n = count(object::walk(&log));
+        let cut = || black_box(&log[..]).split_at(log.len() / 2);
+        let proved = || ring_steps(cut(), library::ring_step);
+        let plain = || ring_steps(cut(), ring::step);
+        let steps = || log_steps(black_box(&log), library::step);
+        let plain_steps = || log_steps(black_box(&log), object::step);
+        assert_eq!((proved(), steps()), (plain(), plain_steps()));
+        let t = best(
+            RUNS,
+            [
+                &proved,
+                &plain,
+                &steps,
+                &plain_steps,
+                &|| count(library::walk(black_box(&log))),
+                &|| count(object::walk(black_box(&log))),
+                &|| read(black_box(&log)),
+            ],
+        );
+        let row = |other: &str, i: usize| {
+            let what = format!("{name}, {n} objects: ring steps, beside {other}");
+            print(&what, log.len(), n, t[0], t[i], t[6]);
+        };
+        row("the same in Rust", 1);
+        row("proved steps over the joined log", 2);
+        row("steps over the joined log in Rust", 3);
+        row("the proved walk of the joined log", 4);
+        row("the walk of the joined log in Rust", 5);
+    }
+
     pub fn main() {
         agree(100_000);
         println!(
@@ -449,6 +558,8 @@ mod timed {
             "56 bytes (CAN), second header",
             &pieces(rng, Second, can, 56, 56),
         );
+        time_ring("48 bytes (CAN)", &pieces(rng, First, can, 48, 48));
+        time_ring("48 to 1,676 bytes", &pieces(rng, First, all, 48, 1_676));
     }
 }
 

@@ -10,6 +10,7 @@
 use crate::asc::LineAt;
 use crate::layout::Refusal;
 use crate::object::{Answer, Object};
+use crate::ring;
 
 #[link(name = "exported", kind = "static")]
 extern "C" {
@@ -68,6 +69,17 @@ extern "C" {
         m: usize,
     ) -> u32;
     fn mshelovat_read_line(text: *const u8, n: usize, out: *mut u64, m: usize) -> u32;
+    fn mshelovat_ring_step(
+        first: *const u8,
+        n: usize,
+        second: *const u8,
+        k: usize,
+        at: usize,
+        scratch: *mut u8,
+        s: usize,
+        out: *mut u64,
+        m: usize,
+    ) -> u32;
 }
 
 /// No line has more bytes than this: so many have room for every one.
@@ -105,6 +117,7 @@ pub fn walk(log: &[u8]) -> Result<usize, Refusal> {
 }
 
 /// The next object at a position, which may be any number.
+#[inline]
 pub fn step(log: &[u8], at: usize) -> Answer {
     let mut out = [0u64; 4];
     // Safe: as in `walk`.
@@ -267,6 +280,34 @@ pub fn read_line(text: &[u8]) -> Result<[u64; TOLD], Refusal> {
     }
 }
 
+/// How many numbers a step over a ring tells.
+const RING_TOLD: usize = 5;
+
+/// The next object at a position, which may be any number, of a log in two segments. Where it
+/// lies in both it is copied to the front of the scratch, without its padding.
+#[inline]
+pub fn ring_step(first: &[u8], second: &[u8], at: usize, scratch: &mut [u8]) -> ring::Answer {
+    let mut out = [0u64; RING_TOLD];
+    let (f, n, s, k) = (first.as_ptr(), first.len(), second.as_ptr(), second.len());
+    let (p, r) = (scratch.as_mut_ptr(), scratch.len());
+    // Safe: as in `list`.
+    let number = unsafe { mshelovat_ring_step(f, n, s, k, at, p, r, out.as_mut_ptr(), RING_TOLD) };
+    let object = Object {
+        start: out[0] as usize,
+        size: out[1] as u32,
+        kind: out[2] as u32,
+        next: out[3] as usize,
+    };
+    match (number, out[4]) {
+        (0, 1) => ring::Answer::First(object),
+        (0, 2) => ring::Answer::Second(object),
+        (0, 3) => ring::Answer::Copied(object),
+        (0, lies) => panic!("an object that lies in {lies}"),
+        (DONE, _) => ring::Answer::Done,
+        (n, _) => ring::Answer::Refused(refusal(n, out[0])),
+    }
+}
+
 #[cfg(test)]
 mod tests {
     use super::*;
@@ -291,9 +332,10 @@ mod tests {
                 mshelovat_line(log, 16, b, 16, o, 0),
                 mshelovat_line_at(log, 0, 0, b, 16, o, 1),
                 mshelovat_read_line(log, 16, o, TOLD - 1),
+                mshelovat_ring_step(log, 0, log, 0, 0, b, 16, o, RING_TOLD - 1),
             ]
         };
-        assert_eq!(numbers, [10; 9]);
+        assert_eq!(numbers, [10; 10]);
         assert_eq!((out, bytes, entries), ([7; TOLD - 1], [7; 16], [7; 3]));
     }
 
@@ -306,6 +348,38 @@ mod tests {
         let number =
             unsafe { mshelovat_read_line(text.as_ptr(), text.len(), out.as_mut_ptr(), TOLD + 1) };
         assert_eq!((number, &out[..TOLD], out[TOLD]), (30, &[0; TOLD][..], 7));
+    }
+
+    /// The number and all that a step over a ring tells, in more numbers than it asks for, and the
+    /// scratch afterwards.
+    fn ring_told(first: &[u8], second: &[u8], at: usize, room: usize) -> (u32, [u64; 6], Vec<u8>) {
+        let (mut out, mut scratch) = ([7u64; RING_TOLD + 1], vec![7; room]);
+        let (f, n, s, k) = (first.as_ptr(), first.len(), second.as_ptr(), second.len());
+        let (p, o) = (scratch.as_mut_ptr(), out.as_mut_ptr());
+        // Safe: each pointer is to as many values as its count says.
+        let number = unsafe { mshelovat_ring_step(f, n, s, k, at, p, room, o, RING_TOLD + 1) };
+        (number, out, scratch)
+    }
+
+    /// A step over a ring tells where the object lies, and after done and refusals the position.
+    #[test]
+    fn ring_step_tells() {
+        use crate::records::{raw, CanOverload, Head, Record};
+        let head = Head {
+            unit: 1,
+            ..Default::default()
+        };
+        let object = raw(&Record::CanOverload(CanOverload { head, channel: 1 }));
+        let log = [&object[..], &object].concat();
+        let told = |cut: usize, at, room| ring_told(&log[..cut], &log[cut..], at, room);
+        let kept = |number, out, room| (number, out, vec![7; room]);
+        assert_eq!(told(72, 36, 40), kept(0, [36, 36, 3, 72, 1, 7], 40));
+        assert_eq!(told(36, 36, 40), kept(0, [36, 36, 3, 72, 2, 7], 40));
+        let copied = [&object[..], &[7; 4]].concat();
+        assert_eq!(told(37, 36, 40), (0, [36, 36, 3, 72, 3, 7], copied));
+        assert_eq!(told(37, 36, 35), kept(12, [36, 0, 0, 36, 0, 7], 35));
+        assert_eq!(told(37, 1, 40), kept(2, [1, 0, 0, 1, 0, 7], 40));
+        assert_eq!(told(37, 72, 40), kept(DONE, [72, 0, 0, 72, 0, 7], 40));
     }
 
     /// The longest line just fits the bytes that are always enough.

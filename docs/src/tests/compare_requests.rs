@@ -11,7 +11,7 @@ use program::replies::{tell, Break};
 
 /// The seed and count that `tests/compare-requests` takes by itself.
 const SEED: u64 = 7;
-const COUNT: usize = 20_000;
+const COUNT: usize = 40_000;
 
 fn answers_of(seed: u64, wrong: Break) -> Vec<u8> {
     let mut cases = Cases::new(seed);
@@ -28,6 +28,11 @@ fn answers(wrong: Break) -> Vec<u8> {
 #[test]
 #[ignore = "300 seeds"]
 fn many_seeds_reach_all_that_they_must() {
+    let most = (0..300).map(|seed| Cases::new(seed).left()).max().unwrap();
+    println!(
+        "the sweeps have at most {most} cases, with room for {}",
+        COUNT / 2
+    );
     for seed in 0..300 {
         let answers = answers_of(seed, Break::Nothing);
         let passed = judge(seed, COUNT, Break::Nothing, &mut &answers[..]);
@@ -61,7 +66,7 @@ fn too_few_cases_do_not_pass() {
 #[test]
 fn every_break_shows() {
     let answers = answers(Break::Nothing);
-    for name in ["counter", "remote", "time", "place"] {
+    for name in ["counter", "remote", "time", "place", "scratch", "seam"] {
         let wrong = Break::named(name).unwrap();
         assert!(!judge(SEED, COUNT, wrong, &mut &answers[..]), "{name}");
     }

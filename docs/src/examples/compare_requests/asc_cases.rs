@@ -145,10 +145,9 @@ fn any_room(rng: &mut Rng, length: usize) -> usize {
     }
 }
 
-/// One of the four questions.
-pub fn at_random(rng: &mut Rng, number: usize) -> Case {
-    let turn = number / 4;
-    match 1 + number % 4 {
+/// A case of one of the four questions.
+pub fn at_random(rng: &mut Rng, question: usize, turn: usize) -> Case {
+    match question {
         1 => {
             let object = any_object(rng, turn);
             let room = any_room(rng, line_of(&object).len());
@@ -396,7 +395,7 @@ fn swept_records(rng: &mut Rng) -> Vec<Record<'static>> {
     ]
 }
 
-/// All sweeps: no more than half of the cases that are asked by default.
+/// All sweeps of these questions.
 pub fn sweeps(rng: &mut Rng) -> Vec<Case> {
     let mut cases = Vec::new();
     for record in swept_records(rng) {

@@ -1,9 +1,9 @@
 //! A case, and the cases of a seed: half of them from the sweeps, half at random.
-use super::asc_cases;
+use super::{asc_cases, ring_cases};
 use mshelovat_reference::gen::Rng;
 use mshelovat_reference::layout::u32_at;
 
-/// The most bytes of a part, and of a room.
+/// The most bytes of a part, of a room and of a scratch.
 pub const LIMIT: usize = 4_096;
 
 /// A question with all it needs.
@@ -26,24 +26,31 @@ impl Case {
         bytes
     }
 
-    /// The second part as a number: the room at a position, or the type of a record.
+    /// The number that the second part is or begins with: the room at a position, the type of a
+    /// record, or the length of a scratch.
     pub fn second_number(&self) -> u32 {
         u32_at(&self.second, 0)
     }
 
-    /// The room of a case that writes; else 0.
+    /// The room or the scratch of a case that writes; else 0.
     pub fn room(&self) -> usize {
         match self.question {
             1 | 4 => self.number as usize,
-            2 => self.second_number() as usize,
+            2 | 5 => self.second_number() as usize,
             _ => 0,
         }
+    }
+
+    /// The segments of a ring.
+    pub fn segments(&self) -> (&[u8], &[u8]) {
+        (&self.first, &self.second[4..])
     }
 }
 
 /// The cases one after the other: every second one from the sweeps, while they last.
 pub struct Cases {
     rng: Rng,
+    /// No more than half of the cases that are asked by default.
     sweeps: std::vec::IntoIter<Case>,
     number: usize,
 }
@@ -51,10 +58,11 @@ pub struct Cases {
 impl Cases {
     pub fn new(seed: u64) -> Cases {
         let mut rng = Rng(seed);
-        let sweeps = asc_cases::sweeps(&mut rng).into_iter();
+        let mut sweeps = asc_cases::sweeps(&mut rng);
+        sweeps.extend(ring_cases::sweeps(&mut rng));
         Cases {
             rng,
-            sweeps,
+            sweeps: sweeps.into_iter(),
             number: 0,
         }
     }
@@ -67,11 +75,21 @@ impl Cases {
         } else {
             None
         };
-        swept.unwrap_or_else(|| asc_cases::at_random(&mut self.rng, number / 2))
+        swept.unwrap_or_else(|| at_random(&mut self.rng, number / 2))
     }
 
     /// How many cases of the sweeps were not asked for yet.
     pub fn left(&self) -> usize {
         self.sweeps.len()
+    }
+}
+
+/// Each of the six questions in turn.
+fn at_random(rng: &mut Rng, number: usize) -> Case {
+    let turn = number / 6;
+    match 1 + number % 6 {
+        question @ 1..=4 => asc_cases::at_random(rng, question, turn),
+        5 => ring_cases::any_step(rng, turn),
+        _ => ring_cases::any_view(rng, turn),
     }
 }

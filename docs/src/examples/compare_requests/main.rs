@@ -3,15 +3,17 @@
 //! `compare_requests make SEED COUNT` writes the cases to standard output; the Rattle program
 //! `compare_requests` answers them; `compare_requests judge SEED COUNT` makes the same cases again,
 //! reads the replies from standard input and compares. With `--break NAME` behind it, `judge`
-//! answers wrongly in one point (`counter`, `remote`, `time` or `place`), so that one sees it fail.
+//! answers wrongly in one point (`counter`, `remote`, `time`, `place`, `scratch` or `seam`), so
+//! that one sees it fail.
 //!
 //! A case: the question (1 byte), the lengths of its first and second part (u32, u32), a number
 //! (u64), the first part, the second part; a part has at most 4,096 bytes. A reply: a word and four
 //! numbers, each a u64, and what stands behind it. All little-endian; what is not used is 0.
 //!
-//! The words: 2 done; 3 refused (number, place); 5 the bytes used; 6 told. The last of the four
-//! numbers is the next position where the question has one, and after done or a refusal the
-//! position that was handed in.
+//! The words: 2 done; 3 refused (number, place); 5 the bytes used; 6 told; an object (start, size
+//! without padding, type): 7 in the first segment, 8 in the second, 9 copied; 10 the view's length.
+//! The last of the four numbers is the next position where the question has one, and after done or
+//! a refusal the position that was handed in.
 //!
 //! W-201, ASC lines. The questions:
 //!
@@ -31,14 +33,26 @@
 //! W-205, places. The reply to 2 tells the place of 1 to 9 and, as the next position, the one that
 //! was handed in; the others tell place 0.
 //!
+//! W-206, a ring in two segments. The questions:
+//!
+//! 5. A step over a ring: the first segment; the second part is the length of the scratch as a u32,
+//!    then the second segment; the number is the position in the joined log.
+//! 6. The view of the object at a position of a ring: the same, with 0 for the scratch's length.
+//!
+//! Behind the reply to 5 stand the bytes of the scratch, which is the front of the same page that
+//! lines are written to; to 6, the view's bytes: as many as the reply tells, and never above 8,192.
+//! A reply to 6 has no position.
+//!
 //! The judge also fails where something never came that must come, by what the requests' files say
-//! (`NEEDED`), and where the sweeps were not asked to their end: then COUNT is too small or the
-//! cases are.
+//! (`NEEDED`, `needed`), and where the sweeps were not asked to their end: then COUNT is too small
+//! or the cases are.
 mod asc;
 mod asc_cases;
 mod asc_texts;
 pub mod cases;
 pub mod replies;
+mod ring;
+mod ring_cases;
 
 use cases::{Case, Cases, LIMIT};
 use replies::{read_told, tell, Break, Told};
@@ -71,7 +85,11 @@ struct Seen(BTreeMap<String, usize>);
 
 impl Seen {
     fn note(&mut self, case: &Case, told: &Told) {
-        for name in asc::names(case, told) {
+        let names = match case.question {
+            1..=4 => asc::names(case, told),
+            _ => ring::names(case, told),
+        };
+        for name in names {
             *self.0.entry(name).or_default() += 1;
         }
     }
@@ -84,7 +102,9 @@ impl Seen {
 
     /// Prints and counts what never came and must come.
     fn missing(&self) -> usize {
-        let never = asc::NEEDED.iter().filter(|n| !self.0.contains_key(**n));
+        let needed = asc::NEEDED.iter().map(|name| name.to_string());
+        let needed = needed.chain(ring::needed());
+        let never = needed.filter(|name| !self.0.contains_key(name));
         never.inspect(|name| println!("never came: {name}")).count()
     }
 }
@@ -127,7 +147,7 @@ pub fn judge(seed: u64, count: usize, wrong: Break, input: &mut impl Read) -> bo
 fn usage() -> ! {
     eprintln!(
         "usage: compare_requests make SEED COUNT, \
-         or compare_requests judge SEED COUNT [--break counter|remote|time|place]"
+         or compare_requests judge SEED COUNT [--break counter|remote|time|place|scratch|seam]"
     );
     exit(2);
 }

@@ -1,6 +1,6 @@
 //! Replies: this crate's own, and those that are read; and the faults that `--break` puts in.
-use super::asc;
-use super::cases::Case;
+use super::cases::{Case, LIMIT};
+use super::{asc, ring};
 use mshelovat_reference::layout::Refusal;
 use std::io::Read;
 
@@ -13,6 +13,10 @@ pub mod word {
     pub const REFUSED: u64 = 3;
     pub const USED: u64 = 5;
     pub const TOLD: u64 = 6;
+    pub const FIRST: u64 = 7;
+    pub const SECOND: u64 = 8;
+    pub const COPIED: u64 = 9;
+    pub const VIEW: u64 = 10;
 }
 
 /// A reply and the bytes behind it.
@@ -43,6 +47,10 @@ pub enum Break {
     Time,
     /// What is refused at a position is told at that position, as before W-205.
     Place,
+    /// An object that lies in both segments of a ring needs a scratch for its padding too.
+    Scratch,
+    /// An object that starts exactly where the second segment does is told as the first's.
+    Seam,
 }
 
 impl Break {
@@ -52,6 +60,8 @@ impl Break {
             "remote" => Some(Break::Remote),
             "time" => Some(Break::Time),
             "place" => Some(Break::Place),
+            "scratch" => Some(Break::Scratch),
+            "seam" => Some(Break::Seam),
             _ => None,
         }
     }
@@ -61,29 +71,30 @@ impl Break {
 pub fn tell(case: &Case, page: &mut [u8], wrong: Break) -> Told {
     match case.question {
         1..=4 => asc::tell(case, page, wrong),
+        5 | 6 => ring::tell(case, page, wrong),
         other => panic!("there is no question {other}"),
     }
 }
 
-/// How many bytes stand behind the reply to a case.
-fn length_behind(case: &Case) -> usize {
+/// How many bytes stand behind a reply to a case. A view's length is told, but no more is believed
+/// than two parts have.
+fn length_behind(case: &Case, reply: &Reply) -> Option<usize> {
     match case.question {
-        3 => 8 * asc::NUMBERS,
-        _ => case.room(),
+        3 => Some(8 * asc::NUMBERS),
+        6 => Some(reply[1] as usize).filter(|length| *length <= 2 * LIMIT),
+        _ => Some(case.room()),
     }
 }
 
-/// The library's reply; none where it ends too early.
+/// The library's reply; none where it ends too early or tells too long a view.
 pub fn read_told(input: &mut impl Read, case: &Case) -> Option<Told> {
     let mut bytes = [0; 40];
     input.read_exact(&mut bytes).ok()?;
     let number = |i: usize| u64::from_le_bytes(bytes[8 * i..8 * i + 8].try_into().unwrap());
-    let mut behind = vec![0; length_behind(case)];
+    let reply = std::array::from_fn(number);
+    let mut behind = vec![0; length_behind(case, &reply)?];
     input.read_exact(&mut behind).ok()?;
-    Some(Told {
-        reply: std::array::from_fn(number),
-        behind,
-    })
+    Some(Told { reply, behind })
 }
 
 /// A refusal; `next` is 0 where the question has no position.
