@@ -13,9 +13,20 @@ struct file {
     size_t length;
 };
 
+/* A word's option, `NAME N`: its name, the most that N may be, whether a greater one is taken for that, what it is, and
+ * whether it was said. A list of them ends with one that has no name. */
+struct option {
+    const char *name;
+    uint64_t most;
+    int capped;
+    uint64_t value;
+    int said;
+};
+
 /* file.c: maps a file by its name, to read it. Does not wait for a named pipe, which can't be mapped. 0 where that
- * fails. */
+ * fails. And memory, to write it: pages that nothing is written to take no room. 0 where there is none. */
 int map(const char *name, struct file *f);
+uint8_t *lend(size_t length);
 
 /* progress.c: where `shown`, standard error shows how far long work is. The last figure is taken away at the end. */
 extern int shown;
@@ -32,7 +43,11 @@ int asc_read(const struct file *text);
 
 /* ring.c: the work of a word, on two files, and how long a scratch it is to lend; without a word on that, long enough.
  */
-extern size_t scratch_asked;
+extern struct option ring_options[];
 int ring(const struct file *files);
+
+/* tray.c: the work of a word, on three files, and what its messages have in common. */
+extern struct option tray_options[];
+int tray(const struct file *files);
 
 #endif

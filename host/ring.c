@@ -1,17 +1,10 @@
 /* The objects of a ring: a log in two files, the older part first. */
 #include "host.h"
 
-size_t scratch_asked = (size_t)-1;
-
-/* Memory for the scratch; pages that nothing is copied to take no room. 0 where there is none. */
-static uint8_t *scratch_of(size_t length)
-{
-    static uint8_t nothing[1];
-    void *bytes = nothing;
-    if (length > 0)
-        bytes = mmap(0, length, PROT_READ | PROT_WRITE, MAP_PRIVATE | MAP_ANONYMOUS | MAP_NORESERVE, -1, 0);
-    return bytes == MAP_FAILED ? 0 : bytes;
-}
+struct option ring_options[] = {
+    {"--scratch", SIZE_MAX, 1, SIZE_MAX, 0},
+    {0, 0, 0, 0, 0},
+};
 
 static size_t least(size_t a, size_t b)
 {
@@ -30,8 +23,8 @@ int ring(const struct file *files)
 {
     static const char *const lies[] = {"", "first", "second", "crossing"};
     size_t length = files[0].length + files[1].length, at = 0;
-    size_t room = least(scratch_asked, least(length, UINT32_MAX));
-    uint8_t *scratch = scratch_of(room);
+    size_t room = least((size_t)ring_options[0].value, least(length, UINT32_MAX));
+    uint8_t *scratch = lend(room);
     uint64_t o[MSHELOVAT_RING_STEP], count = 0;
     uint32_t number;
     if (!scratch) {

@@ -3,17 +3,18 @@
  *
  * Each call returns a number and writes its values to the front of the numbers lent to it; what stands behind them
  * stays as it was, and so it is with lent bytes and entries. Numbers: 0 is yes; 1 to 9 refuse the log, 7, 9, 10 and 11
- * a write, 20 to 28 the slips, 12, MSHELOVAT_SCRATCH, and 28 a step over a ring, and 30, MSHELOVAT_LINE, a text, as
- * docs/FORMAT.md lists them; MSHELOVAT_ROOM says that too few numbers were lent, or too few bytes: where too few
- * numbers, nothing is written; MSHELOVAT_DONE is the log's end, MSHELOVAT_OTHER an object of another type.
+ * a write, 20 to 28 the slips, 12, MSHELOVAT_SCRATCH, and 28 a step over a ring, 30, MSHELOVAT_LINE, a text, and 31,
+ * MSHELOVAT_TRAY, a tray, as docs/FORMAT.md lists them; MSHELOVAT_ROOM says that too few numbers were lent, or too few
+ * bytes: where too few numbers, nothing is written; MSHELOVAT_DONE is the log's end, MSHELOVAT_OTHER an object of
+ * another type.
  *
  * The place of 1 to 9 is the byte of the log at fault: the first of the wrong field, or the first wrong one of reserved
  * bytes and padding; for 1 it is the position, for 5 the log's length (docs/FORMAT.md, "Order and place"). The position
  * to go on from is the one before. On writing the place is 0.
  *
  * No call asks for more than what C itself asks: a pointer is not null and its bytes are readable (what is lent to be
- * written, writable) for the call's time, also where the length is 0; lent numbers and entries stand on 8 bytes; and
- * what a call writes lies apart from all else that is handed to it. No call keeps a pointer, allocates, or writes
+ * written, writable) for the call's time, also where the length is 0; lent numbers, entries and time stamps stand on 8
+ * bytes, ids on 4; and what a call writes lies apart from all else that is handed to it. No call keeps a pointer, allocates, or writes
  * anything but what is lent for it. */
 #ifndef MSHELOVAT_H
 #define MSHELOVAT_H
@@ -24,6 +25,7 @@
 #define MSHELOVAT_ROOM 10
 #define MSHELOVAT_SCRATCH 12
 #define MSHELOVAT_LINE 30
+#define MSHELOVAT_TRAY 31
 #define MSHELOVAT_DONE 100
 #define MSHELOVAT_OTHER 101
 
@@ -41,6 +43,9 @@ enum { MSHELOVAT_ENTRY = 3 };
 
 /* The places of mshelovat_list's values. */
 enum { MSHELOVAT_LISTED, MSHELOVAT_GO_ON, MSHELOVAT_PLACE, MSHELOVAT_LIST };
+
+/* How many bytes a CAN message has, which has no padding: under the first header and under the second. */
+enum { MSHELOVAT_MESSAGE_FIRST = 48, MSHELOVAT_MESSAGE_SECOND = 56 };
 
 /* No line has more bytes than this, CR LF included: lent so many, mshelovat_line and mshelovat_line_at have room. */
 enum { MSHELOVAT_LONGEST_LINE = 134 };
@@ -142,6 +147,28 @@ uint32_t mshelovat_read(const uint8_t *log, size_t log_length, size_t at, uint32
  * is as it was. Where no number is lent the answer is 10 too, and nothing is written. */
 uint32_t mshelovat_write(const uint8_t *object, size_t object_length, uint8_t *bytes, size_t bytes_length,
                          uint64_t *out, size_t out_count);
+
+/* Writes a tray of CAN messages, one for each id, one behind the other to the front of `bytes`, under the first header:
+ * each with its id, its time stamp, its eight bytes of the data, and all else in common. What is written is what
+ * mshelovat_write would write one by one. `ids_count` and `stamps_count` count numbers, `data_length` bytes. Lend one
+ * number: out[0] is how many messages were written.
+ * 0: all of them; none where there is no id, whatever else is handed in.
+ * MSHELOVAT_TRAY: the time stamps are not as many as the ids, or the data bytes not eight times as many; out[0] is 0, and
+ * `bytes` is as it was. This is tried before all else.
+ * 7: the time unit is neither ten microseconds nor nanoseconds; 10: `bytes` has no room for the next message. Those
+ * before it stand, MSHELOVAT_MESSAGE_FIRST bytes each, and every byte behind them is as it was. The place is 0 for all
+ * three and not told. Where no number is lent the answer is 10 too, and nothing is written. */
+uint32_t mshelovat_tray_first(uint32_t unit, uint16_t client, uint16_t version, uint16_t channel, uint8_t flags,
+                              uint8_t dlc, const uint32_t *ids, size_t ids_count, const uint64_t *stamps,
+                              size_t stamps_count, const uint8_t *data, size_t data_length, uint8_t *bytes,
+                              size_t bytes_length, uint64_t *out, size_t out_count);
+
+/* The same under the second header, whose time stamp status and original time stamp are one for all messages. A message
+ * has MSHELOVAT_MESSAGE_SECOND bytes. */
+uint32_t mshelovat_tray_second(uint32_t unit, uint8_t status, uint16_t version, uint64_t original, uint16_t channel,
+                               uint8_t flags, uint8_t dlc, const uint32_t *ids, size_t ids_count,
+                               const uint64_t *stamps, size_t stamps_count, const uint8_t *data, size_t data_length,
+                               uint8_t *bytes, size_t bytes_length, uint64_t *out, size_t out_count);
 
 /* The line of an object (types 1, 3 and 4), handed in as its bytes without padding, written to the front of `bytes`.
  * Lend one number.

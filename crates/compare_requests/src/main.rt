@@ -4,6 +4,7 @@ mod lines;
 mod rings;
 mod stream;
 mod told;
+mod trays;
 
 fn main() {
     stream::serve(libc::STDIN_FILENO, libc::STDOUT_FILENO, 1000000);

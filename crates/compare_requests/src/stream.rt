@@ -2,6 +2,7 @@
 use crate::lines::line;
 use crate::rings::tell_ring;
 use crate::told::tell_text;
+use crate::trays::tell_tray;
 ghost use Prim.Native.Nat.{_≤_, _+_, _*_};
 ghost use mathlib.Core.Path.{_≡_};
 ghost use lib.ListN.{length};
@@ -91,6 +92,9 @@ fn tell(output: i32, case: &[u8], out: &mut [u8]) -> bool
     }
     if question == 3 {
         return tell_text(output, &case[17..end]);
+    }
+    if question == 7 {
+        return tell_tray(output, number, case, end, out);
     }
     if question > 4 {
         return tell_ring(output, question, number, case, end, out);

@@ -3,3 +3,4 @@ pub mod Records
 pub mod Lists
 pub mod Lines
 pub mod Rings
+pub mod Trays

@@ -4,6 +4,7 @@ mod line;
 mod list;
 mod record;
 mod rings;
+mod trays;
 
 pub use line::mshelovat_line;
 pub use line::mshelovat_line_at;
@@ -16,6 +17,8 @@ pub use record::mshelovat_read;
 pub use record::mshelovat_write;
 pub use rings::mshelovat_ring_step;
 use slips::Verdict;
+pub use trays::mshelovat_tray_first;
+pub use trays::mshelovat_tray_second;
 ghost use mathlib.Core.Path.{_≡_};
 ghost use mathlib.Core.List.{[], _∷_};
 ghost use Rattle.objects.specs.Next.{nextAt};

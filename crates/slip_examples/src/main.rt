@@ -1,8 +1,9 @@
-// Runs document 01's examples of slips, and of writing frames and foreign objects, and prints what came out: a line an
-// example.
+// Runs document 01's examples of slips, and of writing frames and foreign objects, and W-207's of trays, and prints what
+// came out: a line an example.
 mod samples;
 mod slip;
 mod tell;
+mod trays;
 mod writing;
 
 fn main() {
@@ -14,4 +15,9 @@ fn main() {
     slip::damage();
     writing::frames();
     writing::foreigners();
+    trays::rooms();
+    trays::second_rooms();
+    trays::apart();
+    trays::orders();
+    trays::nothing();
 }

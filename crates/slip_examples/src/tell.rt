@@ -1,6 +1,8 @@
 // Prints an example's words and what came out.
 use outcomes::Written;
 use slips::Verdict;
+use tray::TrayAnswer;
+use tray::Trayed;
 
 fn say(words: &[u8]) {
     io::write_all(libc::STDOUT_FILENO, words);
@@ -40,5 +42,20 @@ pub fn write(words: &[u8], written: Written) {
             say(b" bytes used\n");
         }
         Written::Refused { number: k, place } => refused(k, place),
+    }
+}
+
+// How many messages of a tray were written, and what refused the next.
+pub fn tray(words: &[u8], t: Trayed) {
+    say(words);
+    say(b"written ");
+    number(t.written as u64);
+    let answer = t.answer;
+    match answer {
+        TrayAnswer::All => say(b"\n"),
+        TrayAnswer::Refused { number: k, place } => {
+            say(b", ");
+            refused(k, place);
+        }
     }
 }

@@ -9,7 +9,7 @@ use borrow.Author.Tests.{eq-eqb, not-true}
 use lib.ListN.{length, take, drop}
 use lib.Dec.{eqb}
 use Rattle.fields.specs.Numbers.{val, num, big, nums, allZero}
-use Rattle.fields.specs.Digits.{le}
+use Rattle.fields.specs.Digits.{le, array}
 use Rattle.fields.specs.Slots as slots
 use Rattle.fields.specs.Wrong.{leading, wrongIn}
 use Rattle.fields.proofs.Zeros.{both-true}
@@ -20,7 +20,7 @@ use Rattle.headers.specs.Rows.{rowIn, allowed}
 use Rattle.headers.specs.Header as header
 use Rattle.headers.specs.HeadTests.{first, pairOk, lengthFits}
 use Rattle.can.specs.Fields.{overloadOf}
-use Rattle.can.specs.Tables.{overloadSlots}
+use Rattle.can.specs.Tables.{messageSlots, overloadSlots}
 use Rattle.lin.specs.Fields.{tailOf, messageOf}
 use Rattle.objects.specs.declared.Step.{Step}
 use Rattle.objects.specs.declared.Answer.{Answer}
@@ -42,6 +42,11 @@ use Rattle.ring.specs.Handed.{scratchAt, ringViewAt}
 use Rattle.outcomes.specs.declared.Written.the-variants as written
 use Rattle.outcomes.specs.Reads.{lookAt, recordIn, recordAt}
 use Rattle.outcomes.specs.Writes.{refusalOf, bufferOf}
+use Rattle.tray.specs.declared.TrayAnswer.{TrayAnswer}
+use Rattle.tray.specs.declared.TrayAnswer.the-variants as trays
+use Rattle.tray.specs.declared.Trayed.{Trayed}
+use Rattle.tray.specs.Tray.{together, messageAt, messagesFrom, inTurn, trayOf}
+use Rattle.tray.specs.Claims.{each}
 use Rattle.slips.specs.declared.pass.Verdict.{Verdict}
 use Rattle.slips.specs.declared.pass.Verdict.the-variants as verdict
 use Rattle.slips.specs.Cut as cut
@@ -51,7 +56,7 @@ use Rattle.slips.specs.Check.{checkOf}
 use Rattle.marked_examples.specs.Hex.{hex}
 use Rattle.marked_examples.specs.Marked.{m2, m9, m11}
 use Rattle.wrong_programs.specs.Samples.{seventeen, nineteen, unclean, wrapping, lin168, second, m12, otherSize, otherType, strayAndTwice, paddedSize}
-use Rattle.wrong_programs.specs.Wrong.{Trial, step, walk, read, write, check, ring, view, Meets, Wrong, wrongs, AllRefuted}
+use Rattle.wrong_programs.specs.Wrong.{Trial, step, walk, read, write, check, ring, view, tray, Meets, Wrong, wrongs, AllRefuted}
 
 -- answers as numbers
 
@@ -81,6 +86,13 @@ ringAs (rings.Refused number place) = 5 ∷ number ∷ place ∷ []
 abbrev ringedAs : RingStep → List ℕ → List ℕ
 ringedAs s x = (s .next .at ∷ ringAs (s .answer)) ++ x
 
+abbrev trayAs : TrayAnswer → List ℕ
+trayAs trays.All = 0 ∷ []
+trayAs (trays.Refused number place) = 1 ∷ number ∷ place ∷ []
+
+abbrev trayedAs : Trayed → List ℕ → List ℕ
+trayedAs t y = (t .written ∷ trayAs (t .answer)) ++ y
+
 -- the program's answer, and what the contract asks for
 abbrev given : Trial → List ℕ
 given (step p log at) = stepAs (p log at)
@@ -90,6 +102,7 @@ given (write p i out) = p i out .1
 given (check p log bundle) = verdictAs (p log bundle)
 given (ring p log cut at x) = ringedAs (p (take cut log) (drop cut log) at x .0) (p (take cut log) (drop cut log) at x .1)
 given (view p log cut at) = p (take cut log) (drop cut log) at
+given (tray p c is ts ds x) = trayedAs (p c is ts ds x .told) (p c is ts ds x .buffer)
 
 abbrev asked : Trial → List ℕ
 asked (step p log at) = stepAs (nextAt log at)
@@ -99,6 +112,7 @@ asked (write p i out) = bufferOf (refusalOf i (length out)) (padded i) out
 asked (check p log bundle) = verdictAs (checkOf log bundle)
 asked (ring p log cut at x) = ringedAs (ringAt (take cut log) (drop cut log) at (length x)) (scratchAt (take cut log) (drop cut log) at x)
 asked (view p log cut at) = ringViewAt (take cut log) (drop cut log) at
+asked (tray p c is ts ds x) = trayedAs (trayOf c is ts ds x .told) (trayOf c is ts ds x .buffer)
 
 meets-same : (t : Trial) → Meets t → given t ≡ asked t
 meets-same (step p log at) e = ap stepAs e
@@ -108,6 +122,7 @@ meets-same (write p i out) m = m .buffer
 meets-same (check p log bundle) e = ap verdictAs e
 meets-same (ring p log cut at x) m = ap₂ ringedAs (m .0) (m .1)
 meets-same (view p log cut at) e = e
+meets-same (tray p c is ts ds x) m = ap₂ trayedAs (m .told) (m .buffer)
 
 same : List ℕ → List ℕ → Bool
 same [] [] = true
@@ -140,7 +155,7 @@ refuted (w ∷ ws) e =
     (differ (w .tried) (not-true _ (h .0)), refuted ws (h .1))
 
 computed : noneSame wrongs ≡ true
-unfolding noneSame same wrongs m2 m9 m11 m12 seventeen nineteen unclean wrapping lin168 second otherSize otherType strayAndTwice paddedSize hex walkOf metAt nextAt answered faultOf placeIn gapsOf reservedOf wrongIn leading find isFirst isSecond lengthAt originAt headerOf unitOk headerBlank typeList rowIn allowed pairOk lengthFits first padding num val nums le allZero lookAt recordIn recordAt overloadOf tailOf messageOf header.object header.lengthBy header.headerBy header.head slots.bytesOf overloadSlots bytesOf refusalOf checkOf cutOf cut.faultOf shapeOk big troubleOf ringAt ringOn ringAnswered ringFault ringPlace placed fits crosses scratchAt ringViewAt
+unfolding noneSame same wrongs m2 m9 m11 m12 seventeen nineteen unclean wrapping lin168 second otherSize otherType strayAndTwice paddedSize hex walkOf metAt nextAt answered faultOf placeIn gapsOf reservedOf wrongIn leading find isFirst isSecond lengthAt originAt headerOf unitOk headerBlank typeList rowIn allowed pairOk lengthFits first padding num val nums le allZero lookAt recordIn recordAt overloadOf tailOf messageOf header.object header.lengthBy header.headerBy header.head slots.bytesOf overloadSlots bytesOf refusalOf checkOf cutOf cut.faultOf shapeOk big troubleOf ringAt ringOn ringAnswered ringFault ringPlace placed fits crosses scratchAt ringViewAt trayOf together messageAt messagesFrom inTurn each messageSlots array
 computed = refl
 
 pub all-refuted : AllRefuted wrongs

@@ -1,6 +1,6 @@
--- 01, "What a reader of the contracts must find" and "Slips of the pen", those of W-202, W-204, W-205 and W-206: the
--- wrong programs, each beside an input on which its contract does not hold. `all-refuted` of proofs/Refuted says so of
--- every row.
+-- 01, "What a reader of the contracts must find" and "Slips of the pen", those of W-202 and W-204 to W-207: the wrong
+-- programs, each beside an input on which its contract does not hold. `all-refuted` of proofs/Refuted says so of every
+-- row.
 use Prim.Native.Nat.{ℕ}
 use Prim.Native.String.{String}
 use mathlib.Core.Path.{_≡_}
@@ -11,6 +11,7 @@ use Rattle.lin.specs.declared.tail.Tail.{Tail}
 use Rattle.lin.specs.declared.tail.Tail.the-variants.{Nothing, Response, Rates}
 use Rattle.objects.specs.declared.Step.{Step}
 use Rattle.objects.specs.declared.Walked.{Walked}
+use Rattle.headers.specs.declared.header.Origin.the-variants.{First}
 use Rattle.headers.specs.Types.{Kind, overload, linMessage, numberOf}
 use Rattle.objects.specs.Kinds.{Record}
 use Rattle.objects.specs.Items.{Item, known}
@@ -21,6 +22,8 @@ use Rattle.ring.specs.Handed.{scratchAt, ringViewAt}
 use Rattle.outcomes.specs.declared.Written.{Written}
 use Rattle.outcomes.specs.Reads.{lookAt, recordAt, Reads}
 use Rattle.outcomes.specs.Writes.{Outcome}
+use Rattle.tray.specs.declared.Common.{Common}
+use Rattle.tray.specs.Tray.{Trays}
 use Rattle.slips.specs.declared.pass.Verdict.{Verdict}
 use Rattle.slips.specs.Check.{checkOf}
 use Rattle.marked_examples.specs.Marked.{m2, m9, m11}
@@ -31,6 +34,7 @@ use Rattle.wrong_programs.specs.Records as records
 use Rattle.wrong_programs.specs.Checks as checks
 use Rattle.wrong_programs.specs.Rings as rings
 use Rattle.wrong_programs.specs.Rings.{Program}
+use Rattle.wrong_programs.specs.Trays as trays
 
 -- a program and what it is tried on
 pub data Trial : Type 0 where
@@ -43,6 +47,8 @@ pub data Trial : Type 0 where
   -- a log, where it is cut, a position and a scratch
   ring : Program → List ℕ → ℕ → ℕ → List ℕ → Trial
   view : (List ℕ → List ℕ → ℕ → List ℕ) → List ℕ → ℕ → ℕ → Trial
+  -- what is common, ids, time stamps, data and the output
+  tray : trays.Program → Common → List ℕ → List ℕ → List ℕ → List ℕ → Trial
 
 -- what the contract of the call says of it
 abbrev pub Meets : Trial → Type 0
@@ -55,12 +61,17 @@ Meets (ring p log cut at x) =
     (p (take cut log) (drop cut log) at x .0 ≡ ringAt (take cut log) (drop cut log) at (length x))
     × (p (take cut log) (drop cut log) at x .1 ≡ scratchAt (take cut log) (drop cut log) at x)
 Meets (view p log cut at) = p (take cut log) (drop cut log) at ≡ ringViewAt (take cut log) (drop cut log) at
+Meets (tray p c is ts ds x) = Trays c is ts ds (p c is ts ds x .told) x (p c is ts ds x .buffer)
 
 -- which of its three ends a LIN message has
 abbrev pub endOf : Tail → ℕ
 endOf Nothing = 0
 endOf (Response response) = 1
 endOf (Rates response exact header-stop response-stop) = 2
+
+-- messages under the first header, with this unit
+abbrev pub bench : ℕ → Common
+bench unit = record { unit = unit; origin = First 0; version = 0; channel = 1; flags = 0; dlc = 8 }
 
 pub record Wrong : Type 0 where
   pub name : String
@@ -109,6 +120,13 @@ wrongs =
     ∷ wrong "the copy made before 7 to 9" (ring rings.copiesEarly (set m2 34 1) 20 0 (zeros 36))
     ∷ wrong "the rest of the scratch cleared" (ring rings.clears m9 8 0 (replicate 17 7))
     ∷ wrong "the view of an object that crosses" (view rings.viewCut m9 8 0)
+    ∷ wrong "31 tried behind 7 and 10" (tray trays.trayLast (bench 0) (1 ∷ []) [] [] [])
+    ∷ wrong "the data bytes not counted" (tray trays.dataUncounted (bench 2) (1 ∷ []) (1 ∷ []) [] (zeros 48))
+    ∷ wrong "a tray of none refused for its unit" (tray trays.unitFirst (bench 0) [] [] [] [])
+    ∷ wrong "all messages of a tray or none" (tray trays.allOrNone (bench 2) (1 ∷ 2 ∷ []) (1 ∷ 2 ∷ []) (zeros 16) (zeros 95))
+    ∷ wrong "the refused message counted" (tray trays.countsRefused (bench 2) (1 ∷ 2 ∷ []) (1 ∷ 2 ∷ []) (zeros 16) (zeros 95))
+    ∷ wrong "the bytes behind the messages cleared" (tray trays.clears (bench 2) (1 ∷ []) (1 ∷ []) (zeros 8) (replicate 49 7))
+    ∷ wrong "the first time stamp for all messages" (tray trays.firstStamp (bench 2) (1 ∷ 2 ∷ []) (1 ∷ 2 ∷ []) (zeros 16) (zeros 96))
     ∷ wrong "a check that refuses everything" (check checks.refusesAll (m2 ++ m2) m11)
     ∷ wrong "a check that accepts everything" (check checks.acceptsAll (m2 ++ m2) [])
     ∷ wrong "a check that compares the first slip only" (check checks.firstSlipOnly (m2 ++ m2) m12)

@@ -1,0 +1,3 @@
+pub mod Tray
+pub mod Claims
+pub mod Replies
