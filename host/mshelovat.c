@@ -5,7 +5,8 @@
  *   mshelovat asc-read FILE: what each line of a file tells, or that it is refused.
  *   mshelovat ring FIRST SECOND [--scratch N]: what `list` prints of the two files joined, with where each object lies;
  *     one that lies in both is copied to a scratch of N bytes.
- *   mshelovat tray IDS STAMPS DATA [OPTION N ..]: a CAN message for each id, as a log; a refusal goes to standard error.
+ *   mshelovat tray IDS STAMPS DATA [OPTION N ..]: a CAN message for each id, as a log; a refusal goes to standard
+ *     error.
  *
  * Exit status: 0 accepted, 1 refused, 2 where the usage is wrong, a file can't be read or the output can't be written.
  * No file may be cut while it is read. */
@@ -50,8 +51,8 @@ static int check(const struct file *files)
     return 0;
 }
 
-/* A word: how many files it takes, what it does with them, and its options. Where its output is the lines of a text or a
- * log and nothing else, `no file` goes to standard error. */
+/* A word: how many files it takes, what it does with them, and its options. Where its output is the lines of a text or
+ * a log and nothing else, `no file` goes to standard error. */
 struct word {
     const char *name;
     int files;

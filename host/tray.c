@@ -1,5 +1,5 @@
-/* A tray of CAN messages: ids, time stamps and data in three files, as the call takes them, and what is common to all as
- * options. The messages are a log, and go to standard output. */
+/* A tray of CAN messages: ids, time stamps and data in three files, as the call takes them, and what is common to all
+ * as options. The messages are a log, and go to standard output. */
 #include "host.h"
 
 enum { UNIT, CHANNEL, FLAGS, DLC, VERSION, CLIENT, STATUS, ORIGINAL, ROOM };
@@ -57,14 +57,14 @@ int tray(const struct file *files)
     size_t each = second() ? MSHELOVAT_MESSAGE_SECOND : MSHELOVAT_MESSAGE_FIRST;
     size_t all = files[0].length / sizeof(uint32_t) * each;
     size_t room = said(ROOM) < all ? (size_t)said(ROOM) : all;
-    uint8_t *bytes = lend(room);
+    uint8_t *bytes;
     uint64_t written;
     uint32_t number;
     if (files[0].length % sizeof(uint32_t) != 0 || files[1].length % sizeof(uint64_t) != 0)
         return trouble("an id has four bytes and a time stamp eight: a file ends within one");
     if (second() && tray_options[CLIENT].said)
         return trouble("the first header alone has a client, and the second alone a status and an original time stamp");
-    if (!bytes)
+    if (!(bytes = lend(room)))
         return trouble("no memory for the messages");
     number = write_tray(files, bytes, room, &written);
     if (fwrite(bytes, each, (size_t)written, stdout) != written || fflush(stdout) != 0)

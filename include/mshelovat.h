@@ -14,8 +14,8 @@
  *
  * No call asks for more than what C itself asks: a pointer is not null and its bytes are readable (what is lent to be
  * written, writable) for the call's time, also where the length is 0; lent numbers, entries and time stamps stand on 8
- * bytes, ids on 4; and what a call writes lies apart from all else that is handed to it. No call keeps a pointer, allocates, or writes
- * anything but what is lent for it. */
+ * bytes, ids on 4; and what a call writes lies apart from all else that is handed to it. No call keeps a pointer,
+ * allocates, or writes anything but what is lent for it. */
 #ifndef MSHELOVAT_H
 #define MSHELOVAT_H
 
@@ -152,9 +152,9 @@ uint32_t mshelovat_write(const uint8_t *object, size_t object_length, uint8_t *b
  * each with its id, its time stamp, its eight bytes of the data, and all else in common. What is written is what
  * mshelovat_write would write one by one. `ids_count` and `stamps_count` count numbers, `data_length` bytes. Lend one
  * number: out[0] is how many messages were written.
- * 0: all of them; none where there is no id, whatever else is handed in.
- * MSHELOVAT_TRAY: the time stamps are not as many as the ids, or the data bytes not eight times as many; out[0] is 0, and
- * `bytes` is as it was. This is tried before all else.
+ * 0: all of them; where there is no id and no other slice has anything, none, whatever the unit and the room.
+ * MSHELOVAT_TRAY: the time stamps are not as many as the ids, or the data bytes not eight times as many; out[0] is 0,
+ * and `bytes` is as it was. This is tried before all else.
  * 7: the time unit is neither ten microseconds nor nanoseconds; 10: `bytes` has no room for the next message. Those
  * before it stand, MSHELOVAT_MESSAGE_FIRST bytes each, and every byte behind them is as it was. The place is 0 for all
  * three and not told. Where no number is lent the answer is 10 too, and nothing is written. */

@@ -2,6 +2,7 @@ pub mod Format
 pub mod Types
 pub mod Rows
 pub mod Header
+pub mod OriginBytes
 pub mod HeadTests
 pub mod ObjectTests
 pub mod Layout

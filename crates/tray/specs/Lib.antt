@@ -1,3 +1,4 @@
 pub mod Tray
+pub mod Under
 pub mod Claims
 pub mod Replies

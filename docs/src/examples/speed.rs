@@ -1,5 +1,5 @@
 //! Compares the proved calls with the independent reader, and times walk, check, ASC lines and steps over a ring beside
-//! it, on 64 MiB.
+//! it, on 64 MiB, and a tray of 100,000 CAN messages.
 //! `docs/speed` builds and runs it: it needs the archive of `exported` for this processor, which `docs/native-object`
 //! makes.
 
@@ -10,7 +10,10 @@ mod timed {
     use mshelovat_reference::layout::{self, number, Refusal};
     use mshelovat_reference::library::{self, End, Read};
     use mshelovat_reference::object::{self, Answer, Object};
+    use mshelovat_reference::records::Own;
+    use mshelovat_reference::tray::{self, Common, Trayed};
     use mshelovat_reference::{records, ring, slips};
+    use std::cell::RefCell;
     use std::collections::BTreeSet;
     use std::hint::black_box;
     use std::time::Instant;
@@ -204,11 +207,63 @@ mod timed {
         }
     }
 
-    /// The two agree on logs, bundles, objects, lines and rings, sound and damaged.
+    /// What the messages of a tray have in common; the unit is right.
+    fn any_common(rng: &mut Rng, header: Header) -> Common {
+        let own = match header {
+            First => Own::First {
+                client_index: rng.number() as u16,
+            },
+            Second => gen::second_own(rng),
+        };
+        Common {
+            unit: rng.pick(&[1, 2]),
+            own,
+            version: rng.number() as u16,
+            channel: rng.number() as u16,
+            flags: rng.byte(),
+            dlc: rng.byte(),
+        }
+    }
+
+    /// How long each message of a tray is.
+    fn message_size(header: Header) -> usize {
+        header.length() + 16
+    }
+
+    /// The two agree on a small tray, now and then with a wrong unit or with slices that do not go together; gives the
+    /// number, and how many were written.
+    fn agree_tray(rng: &mut Rng) -> (u8, usize) {
+        let (header, n) = (rng.pick(&Header::BOTH), rng.below(7));
+        let mut common = any_common(rng, header);
+        if rng.once_in(6) {
+            common.unit = rng.pick(&[0, 3, 0x0100, 0x0201, u32::MAX]);
+        }
+        let (mut s, mut d) = (n, 8 * n);
+        match rng.below(12) {
+            0 => s = rng.below(8),
+            1 => d = rng.below(60),
+            2 => d = (d + 1).saturating_sub(rng.below(3)),
+            _ => {}
+        }
+        let ids: Vec<u32> = (0..n).map(|_| rng.number() as u32).collect();
+        let stamps: Vec<u64> = (0..s).map(|_| rng.number()).collect();
+        let data = rng.bytes(d);
+        let needed = n * message_size(header);
+        let less = rng.below(needed + 1);
+        let room = rng.pick(&[0, less, less, needed, needed.saturating_sub(1), needed + 9]);
+        let plain = lent(7, room, |b| tray::write(&common, &ids, &stamps, &data, b));
+        let proved = lent(7, room, |b| library::tray(&common, &ids, &stamps, &data, b));
+        assert_eq!(proved, plain);
+        let Trayed { written, refusal } = plain.0;
+        (refusal.map_or(0, |r| r.number), written)
+    }
+
+    /// The two agree on logs, bundles, objects, lines, rings and trays, sound and damaged.
     fn agree(cases: usize) {
         let rng = &mut Rng(29);
         let [mut checked, mut written, mut placed, mut lines, mut texts, mut rings] =
             [const { BTreeSet::new() }; 6];
+        let mut trays = BTreeSet::new();
         for _ in 0..cases {
             let count = rng.below(7);
             let log = gen::any_log(rng, count);
@@ -229,15 +284,22 @@ mod timed {
             texts.insert(agree_read_line(rng, line));
             rings.insert(agree_ring(rng, &log, 0));
             rings.insert(agree_ring(rng, &log, at));
+            trays.insert(agree_tray(rng));
         }
         assert!(lines.contains(&number::UNIT) && lines.contains(&number::ROOM));
         assert!(placed.contains(&number::UNIT) && placed.contains(&number::ROOM));
         assert!(texts.contains(&0) && texts.contains(&number::LINE));
         assert!(rings.contains(&0) && rings.contains(&number::SCRATCH));
-        println!("{cases} logs, bundles, objects, lines and rings: the same answers");
+        assert!((0..=6).all(|n| trays.contains(&(0, n))));
+        assert!((0..=5).all(|n| trays.contains(&(number::ROOM, n))));
+        assert!([number::UNIT, number::TRAY]
+            .iter()
+            .all(|n| trays.contains(&(*n, 0))));
+        println!("{cases} logs, bundles, objects, lines, rings and trays: the same answers");
         println!("numbers of the check {checked:?}, of the write {written:?}");
         println!("numbers of the line {lines:?}, at a position {placed:?}, read {texts:?}");
-        println!("numbers of a step over a ring {rings:?}\n");
+        println!("numbers of a step over a ring {rings:?}");
+        println!("numbers of a tray, and how many were written {trays:?}\n");
     }
 
     const LOG: usize = 64 << 20;
@@ -311,10 +373,20 @@ mod timed {
     /// The best of several runs of each, in seconds: in turn, every other time from the last to the first, so that none
     /// always comes behind the same one.
     fn best<const N: usize>(runs: usize, calls: [&dyn Fn() -> u64; N]) -> [f64; N] {
+        best_behind(&|| (), runs, calls)
+    }
+
+    /// The same, with something done before each run that is not timed.
+    fn best_behind<const N: usize>(
+        first: &dyn Fn(),
+        runs: usize,
+        calls: [&dyn Fn() -> u64; N],
+    ) -> [f64; N] {
         let mut best = [f64::MAX; N];
         for run in 0..runs {
             for turn in 0..N {
                 let i = if run % 2 == 0 { turn } else { N - 1 - turn };
+                first();
                 let before = Instant::now();
                 black_box(calls[i]());
                 best[i] = best[i].min(before.elapsed().as_secs_f64());
@@ -531,6 +603,47 @@ mod timed {
         row("the walk of the joined log in Rust", 5);
     }
 
+    /// A call that writes a tray.
+    type Write = fn(&Common, &[u32], &[u64], &[u8], &mut [u8]) -> Trayed;
+
+    /// Messages of the tray that is timed.
+    const MESSAGES: usize = 100_000;
+    /// A tray takes less than a millisecond.
+    const TRAY_RUNS: usize = 100;
+
+    /// Times one call that writes a tray. Both write to one buffer, which has exactly the room that is needed and is
+    /// cleared before each run. All its bytes have to be there.
+    fn time_tray(name: &str, rng: &mut Rng, header: Header) {
+        let common = any_common(rng, header);
+        let ids: Vec<u32> = (0..MESSAGES).map(|_| rng.bits() as u32).collect();
+        let stamps: Vec<u64> = (0..MESSAGES).map(|_| rng.bits()).collect();
+        let data: Vec<u8> = (0..8 * MESSAGES).map(|_| rng.byte()).collect();
+        let needed = MESSAGES * message_size(header);
+        let buffer = RefCell::new(vec![1u8; needed]);
+        let clear = || black_box(&mut buffer.borrow_mut()[..]).fill(0);
+        let written = |write: Write| {
+            let mut buffer = buffer.borrow_mut();
+            let (common, ids, stamps, data) = black_box((&common, &ids, &stamps, &data));
+            let answer = write(common, ids, stamps, data, &mut buffer);
+            black_box(&buffer[..]);
+            assert_eq!(answer.refusal, None);
+            answer.written as u64
+        };
+        let (proved, plain) = (|| written(library::tray), || written(tray::write));
+        let bytes = |call: &dyn Fn() -> u64| {
+            clear();
+            assert_eq!(call(), MESSAGES as u64);
+            buffer.borrow().clone()
+        };
+        let log = bytes(&plain);
+        assert!(bytes(&proved) == log);
+        assert_eq!(object::walk(&log), Ok(MESSAGES));
+        let memory = || read(black_box(&buffer.borrow()));
+        let [a, b, memory] = best_behind(&clear, TRAY_RUNS, [&proved, &plain, &memory]);
+        let what = format!("100,000 messages, {name}: a tray");
+        print(&what, needed, MESSAGES as u64, a, b, memory);
+    }
+
     pub fn main() {
         agree(100_000);
         println!(
@@ -560,6 +673,8 @@ mod timed {
         );
         time_ring("48 bytes (CAN)", &pieces(rng, First, can, 48, 48));
         time_ring("48 to 1,676 bytes", &pieces(rng, First, all, 48, 1_676));
+        time_tray("first header", rng, First);
+        time_tray("second header", rng, Second);
     }
 }
 

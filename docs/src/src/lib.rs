@@ -5,13 +5,14 @@
 //! read in two ways, points 1 to 15 of docs/DECISIONS.md hold. Document 02 has
 //! the change requests: [`asc`] is the first of them, W-201, the second header
 //! in [`header`] is W-202, the padding in [`layout`] is W-204's, the places that
-//! [`object`] tells are W-205's, and [`ring`] is W-206.
+//! [`object`] tells are W-205's, [`ring`] is W-206, and [`tray`] is W-207.
 //!
 //! * [`header`]: the two headers and their lengths
 //! * [`layout`]: type list, reserved bytes, rules, padding, refusal numbers
 //! * [`object`]: the next object, the walk, the places of refusals, the views
 //! * [`ring`]: the next object of a log in two segments, and its view
 //! * [`records`]: reading and writing one record of each type
+//! * [`tray`]: writing many CAN messages by one call
 //! * [`slips`]: the check of a bundle against a log
 //! * [`programs`]: what the lister and the desk program print
 //! * [`asc`]: lines of text for types 1, 3 and 4, and their reader
@@ -34,3 +35,4 @@ pub mod programs;
 pub mod records;
 pub mod ring;
 pub mod slips;
+pub mod tray;

@@ -10,7 +10,9 @@
 use crate::asc::LineAt;
 use crate::layout::Refusal;
 use crate::object::{Answer, Object};
+use crate::records::Own;
 use crate::ring;
+use crate::tray::{Common, Trayed};
 
 #[link(name = "exported", kind = "static")]
 extern "C" {
@@ -77,6 +79,43 @@ extern "C" {
         at: usize,
         scratch: *mut u8,
         s: usize,
+        out: *mut u64,
+        m: usize,
+    ) -> u32;
+    fn mshelovat_tray_first(
+        unit: u32,
+        client: u16,
+        version: u16,
+        channel: u16,
+        flags: u8,
+        dlc: u8,
+        ids: *const u32,
+        n: usize,
+        stamps: *const u64,
+        s: usize,
+        data: *const u8,
+        d: usize,
+        bytes: *mut u8,
+        k: usize,
+        out: *mut u64,
+        m: usize,
+    ) -> u32;
+    fn mshelovat_tray_second(
+        unit: u32,
+        status: u8,
+        version: u16,
+        original: u64,
+        channel: u16,
+        flags: u8,
+        dlc: u8,
+        ids: *const u32,
+        n: usize,
+        stamps: *const u64,
+        s: usize,
+        data: *const u8,
+        d: usize,
+        bytes: *mut u8,
+        k: usize,
         out: *mut u64,
         m: usize,
     ) -> u32;
@@ -308,6 +347,52 @@ pub fn ring_step(first: &[u8], second: &[u8], at: usize, scratch: &mut [u8]) -> 
     }
 }
 
+/// Writes a tray of CAN messages to the front of the bytes, one behind the other: how many were
+/// written, and what the next one was refused by: 31, 7 or 10.
+pub fn tray(common: &Common, ids: &[u32], stamps: &[u64], data: &[u8], bytes: &mut [u8]) -> Trayed {
+    let mut out = [0u64; 1];
+    let number = tray_number(common, ids, stamps, data, bytes, &mut out);
+    Trayed {
+        written: out[0] as usize,
+        refusal: (number != 0).then(|| refusal(number, 0)),
+    }
+}
+
+/// The number that comes back; in the first of `out`, how many were written.
+fn tray_number(
+    common: &Common,
+    ids: &[u32],
+    stamps: &[u64],
+    data: &[u8],
+    bytes: &mut [u8],
+    out: &mut [u64],
+) -> u32 {
+    let Common {
+        unit,
+        own,
+        version,
+        channel,
+        flags,
+        dlc,
+    } = *common;
+    let (i, n, t, s) = (ids.as_ptr(), ids.len(), stamps.as_ptr(), stamps.len());
+    let (a, d, p, k) = (data.as_ptr(), data.len(), bytes.as_mut_ptr(), bytes.len());
+    let (o, m) = (out.as_mut_ptr(), out.len());
+    // Safe: as in `list`.
+    match own {
+        Own::First { client_index: c } => unsafe {
+            mshelovat_tray_first(
+                unit, c, version, channel, flags, dlc, i, n, t, s, a, d, p, k, o, m,
+            )
+        },
+        Own::Second { status, original } => unsafe {
+            mshelovat_tray_second(
+                unit, status, version, original, channel, flags, dlc, i, n, t, s, a, d, p, k, o, m,
+            )
+        },
+    }
+}
+
 #[cfg(test)]
 mod tests {
     use super::*;
@@ -319,6 +404,8 @@ mod tests {
         let mut bytes = [7u8; 16];
         let mut entries = [7u64; 3];
         let log = include_bytes!("library.rs").as_ptr();
+        let (ids, stamps) = ([7u32; 1], [7u64; 1]);
+        let (i, t) = (ids.as_ptr(), stamps.as_ptr());
         let (o, b, e) = (out.as_mut_ptr(), bytes.as_mut_ptr(), entries.as_mut_ptr());
         // Safe: each pointer is to as many values as its count says, or more.
         let numbers = unsafe {
@@ -333,9 +420,12 @@ mod tests {
                 mshelovat_line_at(log, 0, 0, b, 16, o, 1),
                 mshelovat_read_line(log, 16, o, TOLD - 1),
                 mshelovat_ring_step(log, 0, log, 0, 0, b, 16, o, RING_TOLD - 1),
+                // Trays of none, which need no room.
+                mshelovat_tray_first(1, 0, 0, 0, 0, 0, i, 0, t, 0, log, 0, b, 16, o, 0),
+                mshelovat_tray_second(1, 0, 0, 0, 0, 0, 0, i, 0, t, 0, log, 0, b, 16, o, 0),
             ]
         };
-        assert_eq!(numbers, [10; 10]);
+        assert_eq!(numbers, [10; 12]);
         assert_eq!((out, bytes, entries), ([7; TOLD - 1], [7; 16], [7; 3]));
     }
 
@@ -380,6 +470,46 @@ mod tests {
         assert_eq!(told(37, 36, 35), kept(12, [36, 0, 0, 36, 0, 7], 35));
         assert_eq!(told(37, 1, 40), kept(2, [1, 0, 0, 1, 0, 7], 40));
         assert_eq!(told(37, 72, 40), kept(DONE, [72, 0, 0, 72, 0, 7], 40));
+    }
+
+    /// A tray of two under each header tells its number and how many were written, and changes no
+    /// number and no byte behind.
+    #[test]
+    fn tray_tells() {
+        let (ids, stamps, data) = ([1, 2], [3, 4], [5; 16]);
+        let second = Own::Second {
+            status: 6,
+            original: 8,
+        };
+        for (own, size) in [(Own::First { client_index: 9 }, 48), (second, 56)] {
+            let common = |unit| Common {
+                unit,
+                own,
+                ..Default::default()
+            };
+            let mut whole = [0; 112];
+            let written = crate::tray::write(&common(1), &ids, &stamps, &data, &mut whole).written;
+            assert_eq!(written, 2);
+            let told = |unit, stamps: &[u64], room, lent| {
+                let (mut out, mut bytes) = ([7; 2], vec![7; room]);
+                let (common, out_lent) = (common(unit), &mut out[..lent]);
+                let number = tray_number(&common, &ids, stamps, &data, &mut bytes, out_lent);
+                (number, out, bytes)
+            };
+            let front = |messages: usize, room| {
+                let mut bytes = whole[..messages * size].to_vec();
+                bytes.resize(room, 7);
+                bytes
+            };
+            let enough = 2 * size + 3;
+            assert_eq!(told(1, &stamps, enough, 2), (0, [2, 7], front(2, enough)));
+            let short = 2 * size - 1;
+            assert_eq!(told(1, &stamps, short, 2), (10, [1, 7], front(1, short)));
+            let kept = |number, written| (number, [written, 7], vec![7; enough]);
+            assert_eq!(told(3, &stamps, enough, 1), kept(7, 0));
+            assert_eq!(told(3, &stamps[1..], enough, 1), kept(31, 0));
+            assert_eq!(told(1, &stamps, enough, 0), kept(10, 7));
+        }
     }
 
     /// The longest line just fits the bytes that are always enough.

@@ -66,7 +66,9 @@ fn too_few_cases_do_not_pass() {
 #[test]
 fn every_break_shows() {
     let answers = answers(Break::Nothing);
-    for name in ["counter", "remote", "time", "place", "scratch", "seam"] {
+    for name in [
+        "counter", "remote", "time", "place", "scratch", "seam", "tray", "uneven",
+    ] {
         let wrong = Break::named(name).unwrap();
         assert!(!judge(SEED, COUNT, wrong, &mut &answers[..]), "{name}");
     }
@@ -79,5 +81,22 @@ fn parts_and_rooms_are_short() {
         let case = cases.next_case();
         assert!(case.first.len() <= LIMIT && case.second.len() <= LIMIT);
         assert!(case.room() <= LIMIT);
+    }
+}
+
+/// The first part of a tray's question has its form.
+#[test]
+fn trays_have_their_form() {
+    let mut cases = Cases::new(SEED);
+    let trays = (0..COUNT).map(|_| cases.next_case());
+    for case in trays.filter(|case| case.question == 7) {
+        let part = &case.first[..];
+        assert_eq!(part.len(), 120);
+        assert!(part[3] <= 8 && part[14] <= 8 && part[15] == 0);
+        match part[0] {
+            1 => assert_eq!(part[16..24], [0; 8]),
+            header => assert_eq!((header, part[9]), (2, 0)),
+        }
+        assert!(case.second.len() <= 80);
     }
 }

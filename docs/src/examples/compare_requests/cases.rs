@@ -1,5 +1,5 @@
 //! A case, and the cases of a seed: half of them from the sweeps, half at random.
-use super::{asc_cases, ring_cases};
+use super::{asc_cases, ring_cases, tray_cases};
 use mshelovat_reference::gen::Rng;
 use mshelovat_reference::layout::u32_at;
 
@@ -35,7 +35,7 @@ impl Case {
     /// The room or the scratch of a case that writes; else 0.
     pub fn room(&self) -> usize {
         match self.question {
-            1 | 4 => self.number as usize,
+            1 | 4 | 7 => self.number as usize,
             2 | 5 => self.second_number() as usize,
             _ => 0,
         }
@@ -60,6 +60,7 @@ impl Cases {
         let mut rng = Rng(seed);
         let mut sweeps = asc_cases::sweeps(&mut rng);
         sweeps.extend(ring_cases::sweeps(&mut rng));
+        sweeps.extend(tray_cases::sweeps(&mut rng));
         Cases {
             rng,
             sweeps: sweeps.into_iter(),
@@ -84,12 +85,13 @@ impl Cases {
     }
 }
 
-/// Each of the six questions in turn.
+/// Each of the seven questions in turn.
 fn at_random(rng: &mut Rng, number: usize) -> Case {
-    let turn = number / 6;
-    match 1 + number % 6 {
+    let turn = number / 7;
+    match 1 + number % 7 {
         question @ 1..=4 => asc_cases::at_random(rng, question, turn),
         5 => ring_cases::any_step(rng, turn),
-        _ => ring_cases::any_view(rng, turn),
+        6 => ring_cases::any_view(rng, turn),
+        _ => tray_cases::any_tray(rng, turn),
     }
 }

@@ -3,17 +3,18 @@
 //! `compare_requests make SEED COUNT` writes the cases to standard output; the Rattle program
 //! `compare_requests` answers them; `compare_requests judge SEED COUNT` makes the same cases again,
 //! reads the replies from standard input and compares. With `--break NAME` behind it, `judge`
-//! answers wrongly in one point (`counter`, `remote`, `time`, `place`, `scratch` or `seam`), so
-//! that one sees it fail.
+//! answers wrongly in one point (`counter`, `remote`, `time`, `place`, `scratch`, `seam`, `tray` or
+//! `uneven`), so that one sees it fail.
 //!
 //! A case: the question (1 byte), the lengths of its first and second part (u32, u32), a number
 //! (u64), the first part, the second part; a part has at most 4,096 bytes. A reply: a word and four
 //! numbers, each a u64, and what stands behind it. All little-endian; what is not used is 0.
 //!
 //! The words: 2 done; 3 refused (number, place); 5 the bytes used; 6 told; an object (start, size
-//! without padding, type): 7 in the first segment, 8 in the second, 9 copied; 10 the view's length.
-//! The last of the four numbers is the next position where the question has one, and after done or
-//! a refusal the position that was handed in.
+//! without padding, type): 7 in the first segment, 8 in the second, 9 copied; 10 the view's length;
+//! 11 how many messages of a tray were written, and the number and place of the refusal, both 0 for
+//! none. The last of the four numbers is the next position where the question has one, and after
+//! done or a refusal the position that was handed in.
 //!
 //! W-201, ASC lines. The questions:
 //!
@@ -43,6 +44,19 @@
 //! lines are written to; to 6, the view's bytes: as many as the reply tells, and never above 8,192.
 //! A reply to 6 has no position.
 //!
+//! W-207, a tray of CAN messages. The question:
+//!
+//! 7. A tray written: the first part is 120 bytes, the second part is the data; the number is the
+//!    room. In the first part stand
+//!    - 0 the header, 1 or 2; 1 flags; 2 DLC; 3 how many ids, at most 8;
+//!    - 4 unit u32; 8 client index u16, or status and a zero byte under the second header;
+//!      10 object version u16; 12 channel u16; 14 how many time stamps, at most 8; 15 zero;
+//!    - 16 original time stamp u64, 0 under the first header; 24 eight ids, u32 each; 56 eight time
+//!      stamps, u64 each. Of the eight only as many as said are used; the others may be anything.
+//!
+//! Behind the reply to 7 stand the bytes of the room, which is the front of the same page too. The
+//! reply has no position.
+//!
 //! The judge also fails where something never came that must come, by what the requests' files say
 //! (`NEEDED`, `needed`), and where the sweeps were not asked to their end: then COUNT is too small
 //! or the cases are.
@@ -53,6 +67,8 @@ pub mod cases;
 pub mod replies;
 mod ring;
 mod ring_cases;
+mod tray;
+mod tray_cases;
 
 use cases::{Case, Cases, LIMIT};
 use replies::{read_told, tell, Break, Told};
@@ -87,7 +103,8 @@ impl Seen {
     fn note(&mut self, case: &Case, told: &Told) {
         let names = match case.question {
             1..=4 => asc::names(case, told),
-            _ => ring::names(case, told),
+            5 | 6 => ring::names(case, told),
+            _ => tray::names(case, told),
         };
         for name in names {
             *self.0.entry(name).or_default() += 1;
@@ -103,7 +120,7 @@ impl Seen {
     /// Prints and counts what never came and must come.
     fn missing(&self) -> usize {
         let needed = asc::NEEDED.iter().map(|name| name.to_string());
-        let needed = needed.chain(ring::needed());
+        let needed = needed.chain(ring::needed()).chain(tray::needed());
         let never = needed.filter(|name| !self.0.contains_key(name));
         never.inspect(|name| println!("never came: {name}")).count()
     }
@@ -146,8 +163,8 @@ pub fn judge(seed: u64, count: usize, wrong: Break, input: &mut impl Read) -> bo
 
 fn usage() -> ! {
     eprintln!(
-        "usage: compare_requests make SEED COUNT, \
-         or compare_requests judge SEED COUNT [--break counter|remote|time|place|scratch|seam]"
+        "usage: compare_requests make SEED COUNT, or compare_requests judge SEED COUNT \
+         [--break counter|remote|time|place|scratch|seam|tray|uneven]"
     );
     exit(2);
 }

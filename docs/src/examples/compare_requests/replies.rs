@@ -1,6 +1,6 @@
 //! Replies: this crate's own, and those that are read; and the faults that `--break` puts in.
 use super::cases::{Case, LIMIT};
-use super::{asc, ring};
+use super::{asc, ring, tray};
 use mshelovat_reference::layout::Refusal;
 use std::io::Read;
 
@@ -17,6 +17,7 @@ pub mod word {
     pub const SECOND: u64 = 8;
     pub const COPIED: u64 = 9;
     pub const VIEW: u64 = 10;
+    pub const TRAYED: u64 = 11;
 }
 
 /// A reply and the bytes behind it.
@@ -51,6 +52,10 @@ pub enum Break {
     Scratch,
     /// An object that starts exactly where the second segment does is told as the first's.
     Seam,
+    /// Each message of a tray is written at the front.
+    Tray,
+    /// 31 comes behind what the first message of the tray is refused by.
+    Uneven,
 }
 
 impl Break {
@@ -62,6 +67,8 @@ impl Break {
             "place" => Some(Break::Place),
             "scratch" => Some(Break::Scratch),
             "seam" => Some(Break::Seam),
+            "tray" => Some(Break::Tray),
+            "uneven" => Some(Break::Uneven),
             _ => None,
         }
     }
@@ -72,6 +79,7 @@ pub fn tell(case: &Case, page: &mut [u8], wrong: Break) -> Told {
     match case.question {
         1..=4 => asc::tell(case, page, wrong),
         5 | 6 => ring::tell(case, page, wrong),
+        7 => tray::tell(case, page, wrong),
         other => panic!("there is no question {other}"),
     }
 }
