@@ -136,11 +136,11 @@ uint32_t mshelovat_check(const uint8_t *log, size_t log_length, const uint8_t *b
 uint32_t mshelovat_read(const uint8_t *log, size_t log_length, size_t at, uint32_t kind, uint8_t *bytes,
                         size_t bytes_length, uint64_t *out, size_t out_count);
 
-/* Writes an object, handed in as its bytes without padding, with its padding to the front of `bytes`: one of the eleven
- * types as its record, any other as foreign. Of the eleven only what the record holds is taken from the object, zeros
- * where it is too short: signature, sizes and reserved bytes are written as the layout has them. The record is read and
- * written under the second header where the object says header size 40 and version 2, else under the first, whatever it
- * says there. Lend one number.
+/* Writes an object, handed in as its bytes without padding, with its padding to the front of `bytes`: one of the
+ * thirteen types as its record, any other as foreign. Of the thirteen only what the record holds is taken from the
+ * object, zeros where it is too short: signature, sizes and reserved bytes are written as the layout has them. The
+ * record is read and written under the second header where the object says header size 40 and version 2, else under the
+ * first, whatever it says there. Lend one number.
  * 0: out[0] is how many bytes were used: the size of the object as it is written, and its padding, which is what that
  * size leaves over when divided by four. Three bytes more than that size are always room enough.
  * 7 or 9: the record is refused; 11: the bytes are no foreign object; 10: `bytes` has no room; out[0] is 0, and `bytes`

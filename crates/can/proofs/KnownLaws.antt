@@ -1,9 +1,10 @@
 -- 01: "a record that 7 and 9 let through is valid". What is known of a record in memory, as a function's `c .good` has
 -- it, is that its fields fit. Assumes nothing.
-use mathlib.Core.Path.{_≡_}
+use mathlib.Core.Path.{_≡_, refl}
 use mathlib.Core.Bool.{true}
 use mathlib.Core.List.{[], _∷_}
 use Prim.Native.Nat.{ℕ, _<_, _^_}
+use lib.Dec.{leb}
 use lib.ListN.{getD}
 use mir.Syntax.{w8}
 use mir.Val.{Fits}
@@ -14,8 +15,8 @@ use borrow.Author.Needs.{needs}
 use Rattle.headers.specs.Format.{unitOk}
 use Rattle.headers.specs.Form.{Valid}
 use Rattle.headers.proofs.Known.{header-known}
-use Rattle.can.specs.Fields.{messageFormat, overloadFormat, statisticFormat}
-use Rattle.can.specs.Tables.{messageSlots, messageForm, overloadSlots, overloadForm, counterSlots, statisticSlots, statisticForm}
+use Rattle.can.specs.Fields.{messageFormat, overloadFormat, statisticFormat, messageTwoFormat, mostValid, fdMessageFormat}
+use Rattle.can.specs.Tables.{messageSlots, messageForm, overloadSlots, overloadForm, counterSlots, statisticSlots, statisticForm, messageTwoSlots, messageTwoForm, timingSlots, fdMessageSlots, fdMessageForm}
 use Rattle.can.specs.declared.message.Message.{Message}
 use Rattle.can.proofs.message.Message as message
 use Rattle.can.proofs.message.Message.Laws as message-laws
@@ -25,6 +26,12 @@ use Rattle.can.proofs.overload.Overload.Laws as overload-laws
 use Rattle.can.specs.declared.statistic.Statistic.{Statistic}
 use Rattle.can.proofs.statistic.Statistic as statistic
 use Rattle.can.proofs.statistic.Statistic.Laws as statistic-laws
+use Rattle.can.specs.declared.message_two.MessageTwo.{MessageTwo}
+use Rattle.can.proofs.message_two.MessageTwo as message-two
+use Rattle.can.proofs.message_two.MessageTwo.Laws as message-two-laws
+use Rattle.can.specs.declared.fd_message.FdMessage.{FdMessage}
+use Rattle.can.proofs.fd_message.FdMessage as fd-message
+use Rattle.can.proofs.fd_message.FdMessage.Laws as fd-message-laws
 
 pub message-known : (r : Message) → Is (struct.row message.the-type) r (val message.the-type message-laws.the-laws r ∷ []) → unitOk (r .header .unit) ≡ true → Valid messageFormat messageForm r
 unfolding messageSlots
@@ -41,3 +48,30 @@ overload-known r g u = let h = header-known (r .header) _ (g .1 .1 .0) in search
 pub statistic-known : (r : Statistic) → Is (struct.row statistic.the-type) r (val statistic.the-type statistic-laws.the-laws r ∷ []) → unitOk (r .header .unit) ≡ true → Valid statisticFormat statisticForm r
 unfolding statisticSlots counterSlots
 statistic-known r g u = let h = header-known (r .header) _ (g .1 .1 .0) in search (needs, g, u, h)
+
+pub message-two-known : (r : MessageTwo) → Is (struct.row message-two.the-type) r (val message-two.the-type message-two-laws.the-laws r ∷ []) → unitOk (r .message .header .unit) ≡ true → Valid messageTwoFormat messageTwoForm r
+unfolding messageTwoSlots
+message-two-known r g u =
+    let m = g .1 .1 .0 in
+    let byte : (i : ℕ) → Fits w8 (getD (r .message .bytes) i 0) = λ i. search (needs, m .1 .1 .1 .1 .1 .1 .1 .0) in
+    let bytes : (i : ℕ) → i < 8 → getD (r .message .bytes) i 0 < 256 ^ 1 = λ i l. byte i .fits in
+    record {
+      header = header-known (r .message .header) _ (m .1 .1 .0);
+      unit = u;
+      fits = (search (needs, m), (search (needs, m), (search (needs, m), (search (needs, m), ((search (needs, m), bytes), (search (needs, g), (search (needs, g), (tt, tt))))))));
+      extra = tt;
+      content = refl;
+    }
+
+pub fd-message-known : (r : FdMessage) → Is (struct.row fd-message.the-type) r (val fd-message.the-type fd-message-laws.the-laws r ∷ []) → unitOk (r .header .unit) ≡ true → leb (r .«valid_bytes») mostValid ≡ true → Valid fdMessageFormat fdMessageForm r
+unfolding fdMessageSlots timingSlots
+fd-message-known r g u e =
+    let byte : (i : ℕ) → Fits w8 (getD (r .bytes) i 0) = λ i. search (needs, g .1 .1 .1 .1 .1 .1 .1 .1 .1 .1 .1 .0) in
+    let bytes : (i : ℕ) → i < 64 → getD (r .bytes) i 0 < 256 ^ 1 = λ i l. byte i .fits in
+    record {
+      header = header-known (r .header) _ (g .1 .1 .0);
+      unit = u;
+      fits = (search (needs, g), (search (needs, g), (search (needs, g), (search (needs, g), (search (needs, g), (search (needs, g), (search (needs, g), (search (needs, g), (tt, ((search (needs, g), bytes), (tt, tt)))))))))));
+      extra = tt;
+      content = e;
+    }

@@ -1,4 +1,7 @@
 // The CAN message, type 1.
+use crate::front::Front;
+use crate::front::get_front;
+use crate::front::put_front;
 ghost use mathlib.Core.Path.{_≡_};
 ghost use Prim.Native.Nat.{_+_, _≤_};
 ghost use lib.ListN.{length};
@@ -21,12 +24,13 @@ pub fn get_message(h: headers::Header, b: &[u8]) -> Message
     requires { ⌜ 16 ≤ length (now b) ⌝ }
     ensures { λ r. ⌜ r ≡ messageOf h (now (b .entry)) ⌝ }
 {
+    let f = get_front(b);
     Message {
         header: h,
-        channel: fields::get16(b, 0),
-        flags: fields::get8(b, 2),
-        dlc: fields::get8(b, 3),
-        id: fields::get32(b, 4),
+        channel: f.channel,
+        flags: f.flags,
+        dlc: f.dlc,
+        id: f.id,
         bytes: fields::get8x8(b, 8),
     }
 }
@@ -37,9 +41,12 @@ pub fn put_message(out: &mut [u8], at: usize, r: Message)
     ensures { λ _. ⌜ Wrote at (bytesOf messageSlots r) (now (out .entry)) (now (out .exit)) ⌝ }
 {
     let bytes = r.bytes;
-    fields::put16(out, at, r.channel);
-    fields::put8(out, at + 2, r.flags);
-    fields::put8(out, at + 3, r.dlc);
-    fields::put32(out, at + 4, r.id);
+    let front = Front {
+        channel: r.channel,
+        flags: r.flags,
+        dlc: r.dlc,
+        id: r.id,
+    };
+    put_front(out, at, front);
     fields::put8x8(out, at + 8, bytes);
 }

@@ -8,7 +8,9 @@ use Rattle.fields.specs.Numbers.{Bytes}
 use Rattle.can.specs.declared.message.Message.{Message}
 use Rattle.can.specs.declared.overload.Overload.{Overload}
 use Rattle.can.specs.declared.statistic.Statistic.{Statistic}
-use Rattle.headers.specs.Types.{canMessage, overload, statistic}
+use Rattle.can.specs.declared.message_two.MessageTwo.{MessageTwo}
+use Rattle.can.specs.declared.fd_message.FdMessage.{FdMessage}
+use Rattle.headers.specs.Types.{canMessage, overload, statistic, messageTwo, fdMessage}
 use Rattle.objects.specs.Items.{known, Stands}
 use Rattle.outcomes.specs.declared.ReadAnswer.the-variants as told
 use Rattle.outcomes.specs.Reads.{lookAt, recordAt}
@@ -23,3 +25,9 @@ module _ (s : List ℕ) (at : ℕ) (bs : Bytes s) where
 
   pub statistic-exact : (r : Statistic) → ((lookAt s at 4 .told ≡ told.Record) × (recordAt statistic s at ≡ r)) ↔ Stands s at (known statistic r)
   statistic-exact r = read-exact statistic s at bs r
+
+  pub message-two-exact : (r : MessageTwo) → ((lookAt s at 86 .told ≡ told.Record) × (recordAt messageTwo s at ≡ r)) ↔ Stands s at (known messageTwo r)
+  message-two-exact r = read-exact messageTwo s at bs r
+
+  pub fd-message-exact : (r : FdMessage) → ((lookAt s at 100 .told ≡ told.Record) × (recordAt fdMessage s at ≡ r)) ↔ Stands s at (known fdMessage r)
+  fd-message-exact r = read-exact fdMessage s at bs r

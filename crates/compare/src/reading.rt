@@ -21,6 +21,8 @@ fn read_as(kind: u32, out: &mut [u8], log: &[u8], c: Cursor) -> usize
         50 => flexray_sheet::receive(out, log, c),
         57 => lin_sheet::message(out, log, c),
         62 => lin_sheet::wake_up(out, log, c),
+        86 => can_sheet::message_two(out, log, c),
+        100 => can_sheet::fd_message(out, log, c),
         103 => ethernet_sheet::status(out, log, c),
         120 => ethernet_sheet::frame(out, log, c),
         121 => ethernet_sheet::forwarded_frame(out, log, c),

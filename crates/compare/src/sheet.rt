@@ -86,6 +86,13 @@ pub fn put8x8(out: &mut [u8], from: usize, v: [u8; 8]) -> usize
     put_each(out, from, &v)
 }
 
+pub fn put8x64(out: &mut [u8], from: usize, v: [u8; 64]) -> usize
+    requires { ⌜ from ≤ length (now out) ⌝ }
+    ensures { λ r. ⌜ Kept r (now (out .entry)) (now (out .exit)) ⌝ }
+{
+    put_each(out, from, &v)
+}
+
 pub fn put8x254(out: &mut [u8], from: usize, v: [u8; 254]) -> usize
     requires { ⌜ from ≤ length (now out) ⌝ }
     ensures { λ r. ⌜ Kept r (now (out .entry)) (now (out .exit)) ⌝ }

@@ -63,11 +63,11 @@ pub fn rooms() {
     tell::write(b"writing a frame of 1,611 bytes: ", some);
 }
 
-// Objects end to end as python-can writes them: they begin at 0, 104, 210 and 318.
+// Objects end to end as python-can writes its markers: they begin at 0, 104, 210 and 318.
 pub fn python_can() {
-    let mut log = samples::python_can(100);
+    let mut log = samples::python_can(96);
     tell::walk(
-        b"python-can's form, type 100, sizes 104 to 107 end to end: ",
+        b"python-can's form, type 96, sizes 104 to 107 end to end: ",
         &log,
     );
     tell::step(b"the one of 105 bytes: ", &log, 104);
@@ -76,6 +76,6 @@ pub fn python_can() {
     tell::walk_first(b"without the last zero byte: ", &log, 427);
     log[427] = 1;
     tell::walk(b"the last zero byte being 1: ", &log);
-    let markers = samples::python_can(96);
-    tell::walk(b"the same of type 96, its markers: ", &markers);
+    let listed = samples::python_can(100);
+    tell::walk(b"the same of type 100, which is listed: ", &listed);
 }

@@ -1,6 +1,7 @@
-// Runs document 01's examples of reading and writing that are not marked, and those of W-202, W-204, W-205 and W-206,
-// over the proved calls, and prints what came out: a line an example. Those of slips, frames and foreign objects stand
-// in `slip_examples`.
+// Runs document 01's examples of reading and writing that are not marked, and those of W-202, W-204 to W-206 and
+// W-208, over the proved calls, and prints what came out: a line an example. Those of slips, frames and foreign objects
+// stand in `slip_examples`.
+mod can_fd;
 mod left_over;
 mod reading;
 mod samples;
@@ -44,4 +45,8 @@ fn main() {
     two_segments::cuts();
     two_segments::orders();
     two_segments::padding();
+    can_fd::reading();
+    can_fd::sizes();
+    can_fd::writing();
+    can_fd::message_two();
 }

@@ -38,4 +38,13 @@ pub fn foreigners() {
         b"writing an object of type 9 as a foreign object: ",
         written,
     );
+    other[12] = 86;
+    let written = records::write_foreign(&other, &mut out);
+    tell::write(
+        b"an old foreign copy, of type 86 now listed (W-208): ",
+        written,
+    );
+    other[12] = 100;
+    let written = records::write_foreign(&other, &mut out);
+    tell::write(b"the same of type 100: ", written);
 }

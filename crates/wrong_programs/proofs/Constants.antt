@@ -12,7 +12,7 @@ use Rattle.fields.specs.Slots as slots
 use Rattle.headers.specs.declared.header.Origin.{Origin}
 use Rattle.headers.specs.declared.header.Origin.the-variants.{First, Second}
 use Rattle.headers.specs.Format.{padding, isFirst, isSecond, lengthAt, originAt, headerOf, unitOk}
-use Rattle.headers.specs.Types.{Kind, canMessage, overload, statistic, receive, linMessage, wakeUp, ethernetStatus, frame, forwardedFrame, ethernetError, forwardedError, numberOf, typeList}
+use Rattle.headers.specs.Types.{Kind, canMessage, overload, statistic, receive, linMessage, wakeUp, messageTwo, fdMessage, ethernetStatus, frame, forwardedFrame, ethernetError, forwardedError, numberOf, typeList}
 use Rattle.headers.specs.TypeFormat.{reservedOf}
 use Rattle.headers.specs.Rows.{rowIn, allowed}
 use Rattle.headers.specs.Header as header
@@ -51,13 +51,15 @@ clientAt k r = clientBy (layoutOf k .header r .origin)
 
 -- the client index that is read is the sample's
 client : (k : Kind) → (clientAt k (recordAt k (byClient k 0) 0) ≡ 0) × (clientAt k (recordAt k (byClient k 1) 0) ≡ 1)
-unfolding byClient hex nextAt answered faultOf find isFirst isSecond lengthAt originAt headerOf unitOk reservedOf typeList rowIn allowed pairOk lengthFits first padding num val nums le array allZero slots.bytesOf lookAt recordIn recordAt header.object header.lengthBy header.headerBy header.head can.messageOf can.overloadOf can.statisticOf can-table.messageSlots can-table.overloadSlots can-table.statisticSlots can-table.counterSlots flexray.receiveOf flexray.countsOk flexray-table.receiveSlots flexray-table.originSlots flexray-table.slotSlots flexray-table.controllerSlots lin.tailOf lin.messageOf lin.wakeUpOf lin-tail.tail lin-table.messageSlots lin-table.synchSlots lin-table.busSlots lin-table.descriptorSlots lin-table.statusSlots lin-table.machineSlots lin-table.wakeUpSlots ethernet.statusOf ethernet.frameOf ethernet.errorOf ethernet-table.statusSlots ethernet-table.eightSlots ethernet-table.frameSlots ethernet-table.errorSlots ethernet-table.eventSlots ethernet-table.originSlots ethernet-table.transmissionSlots
+unfolding byClient hex nextAt answered faultOf find isFirst isSecond lengthAt originAt headerOf unitOk reservedOf typeList rowIn allowed pairOk lengthFits first padding num val nums le array allZero slots.bytesOf lookAt recordIn recordAt header.object header.lengthBy header.headerBy header.head can.messageOf can.overloadOf can.statisticOf can.messageTwoOf can.fdMessageOf can-table.messageSlots can-table.overloadSlots can-table.statisticSlots can-table.counterSlots can-table.messageTwoSlots can-table.timingSlots can-table.fdMessageSlots flexray.receiveOf flexray.countsOk flexray-table.receiveSlots flexray-table.originSlots flexray-table.slotSlots flexray-table.controllerSlots lin.tailOf lin.messageOf lin.wakeUpOf lin-tail.tail lin-table.messageSlots lin-table.synchSlots lin-table.busSlots lin-table.descriptorSlots lin-table.statusSlots lin-table.machineSlots lin-table.wakeUpSlots ethernet.statusOf ethernet.frameOf ethernet.errorOf ethernet-table.statusSlots ethernet-table.eightSlots ethernet-table.frameSlots ethernet-table.errorSlots ethernet-table.eventSlots ethernet-table.originSlots ethernet-table.transmissionSlots
 client canMessage = (refl, refl)
 client overload = (refl, refl)
 client statistic = (refl, refl)
 client receive = (refl, refl)
 client linMessage = (refl, refl)
 client wakeUp = (refl, refl)
+client messageTwo = (refl, refl)
+client fdMessage = (refl, refl)
 client ethernetStatus = (refl, refl)
 client frame = (refl, refl)
 client forwardedFrame = (refl, refl)

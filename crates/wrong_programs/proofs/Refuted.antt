@@ -18,8 +18,8 @@ use Rattle.headers.specs.TypeFormat.{reservedOf}
 use Rattle.headers.specs.Types.{typeList}
 use Rattle.headers.specs.Rows.{rowIn, allowed}
 use Rattle.headers.specs.Header as header
-use Rattle.headers.specs.HeadTests.{first, pairOk, lengthFits}
-use Rattle.can.specs.Fields.{overloadOf}
+use Rattle.headers.specs.HeadTests.{first, pairOk, lengthFits, listedFault, foreignFault, headFault}
+use Rattle.can.specs.Fields.{overloadOf, fdMessageOf}
 use Rattle.can.specs.Tables.{messageSlots, overloadSlots}
 use Rattle.lin.specs.Fields.{tailOf, messageOf}
 use Rattle.objects.specs.declared.Step.{Step}
@@ -41,7 +41,7 @@ use Rattle.ring.specs.Ring.{fits, ringFault, ringPlace, placed, ringAnswered, r
 use Rattle.ring.specs.Handed.{scratchAt, ringViewAt}
 use Rattle.outcomes.specs.declared.Written.the-variants as written
 use Rattle.outcomes.specs.Reads.{lookAt, recordIn, recordAt}
-use Rattle.outcomes.specs.Writes.{refusalOf, bufferOf}
+use Rattle.outcomes.specs.Writes.{foreignOk, refusalOf, bufferOf}
 use Rattle.tray.specs.declared.TrayAnswer.{TrayAnswer}
 use Rattle.tray.specs.declared.TrayAnswer.the-variants as trays
 use Rattle.tray.specs.declared.Trayed.{Trayed}
@@ -55,7 +55,7 @@ use Rattle.slips.specs.Soonest.{troubleOf}
 use Rattle.slips.specs.Check.{checkOf}
 use Rattle.marked_examples.specs.Hex.{hex}
 use Rattle.marked_examples.specs.Marked.{m2, m9, m11}
-use Rattle.wrong_programs.specs.Samples.{seventeen, nineteen, unclean, wrapping, lin168, second, m12, otherSize, otherType, strayAndTwice, paddedSize}
+use Rattle.wrong_programs.specs.Samples.{seventeen, nineteen, unclean, wrapping, lin168, second, fd, m12, otherSize, otherType, strayAndTwice, paddedSize}
 use Rattle.wrong_programs.specs.Wrong.{Trial, step, walk, read, write, check, ring, view, tray, Meets, Wrong, wrongs, AllRefuted}
 
 -- answers as numbers
@@ -155,7 +155,7 @@ refuted (w ∷ ws) e =
     (differ (w .tried) (not-true _ (h .0)), refuted ws (h .1))
 
 computed : noneSame wrongs ≡ true
-unfolding noneSame same wrongs m2 m9 m11 m12 seventeen nineteen unclean wrapping lin168 second otherSize otherType strayAndTwice paddedSize hex walkOf metAt nextAt answered faultOf placeIn gapsOf reservedOf wrongIn leading find isFirst isSecond lengthAt originAt headerOf unitOk headerBlank typeList rowIn allowed pairOk lengthFits first padding num val nums le allZero lookAt recordIn recordAt overloadOf tailOf messageOf header.object header.lengthBy header.headerBy header.head slots.bytesOf overloadSlots bytesOf refusalOf checkOf cutOf cut.faultOf shapeOk big troubleOf ringAt ringOn ringAnswered ringFault ringPlace placed fits crosses scratchAt ringViewAt trayOf together messageAt messagesFrom inTurn each messageSlots array
+unfolding noneSame same wrongs m2 m9 m11 m12 seventeen nineteen unclean wrapping lin168 second fd otherSize otherType strayAndTwice paddedSize hex walkOf metAt nextAt answered faultOf placeIn gapsOf reservedOf wrongIn leading find isFirst isSecond lengthAt originAt headerOf unitOk headerBlank typeList rowIn allowed pairOk lengthFits first padding num val nums le allZero lookAt recordIn recordAt overloadOf fdMessageOf tailOf messageOf header.object header.lengthBy header.headerBy header.head slots.bytesOf overloadSlots bytesOf foreignOk headFault listedFault foreignFault refusalOf checkOf cutOf cut.faultOf shapeOk big troubleOf ringAt ringOn ringAnswered ringFault ringPlace placed fits crosses scratchAt ringViewAt trayOf together messageAt messagesFrom inTurn each messageSlots array
 computed = refl
 
 pub all-refuted : AllRefuted wrongs

@@ -5,7 +5,7 @@ use mathlib.Core.Bool.{Bool, cond, not, _&&_, _||_}
 use mathlib.Core.List.{List, [], _∷_, _++_}
 use lib.ListN.{length, take, drop}
 use lib.Dec.{eqb, leb}
-use Rattle.fields.specs.Numbers.{num}
+use Rattle.fields.specs.Numbers.{part, num, allZero}
 use Rattle.fields.specs.Rules.{shifted}
 use Rattle.fields.specs.Wrong.{wrongByte}
 use Rattle.headers.specs.Format.{extent, sizeAt, kindAt, firstLength, secondAt, lengthAt, headerGaps, headerBlank}
@@ -150,3 +150,23 @@ countsOneMore s = oneMore (walkOf s)
 -- counts so many objects, whatever the log
 abbrev pub counts : ℕ → List ℕ → Walked
 counts n s = walked.Count n
+
+-- W-208: the test of this number not made on a CAN FD message where `free` says so
+abbrev pub fdFree : ℕ → (List ℕ → Bool) → List ℕ → ℕ → Step
+fdFree n free = stepBy (λ s at. firstOf (letThrough n (eqb (kindAt (drop at s)) 100 && free (drop at s)) (table (drop at s)))) behind
+
+-- tests the valid bytes against 65
+abbrev pub to65 : List ℕ → ℕ → Step
+to65 = fdFree 9 (λ t. eqb (num 1 t 46) 65)
+
+-- takes python-can's 116 bytes
+abbrev pub size116 : List ℕ → ℕ → Step
+size116 = fdFree 3 (λ t. eqb (sizeAt t) 116)
+
+-- does not test the reserved u32 at 116
+abbrev pub endUntested : List ℕ → ℕ → Step
+endUntested = fdFree 8 (λ t. allZero (part 5 t 47))
+
+-- refuses valid bytes above the DLC
+abbrev pub byDlc : List ℕ → ℕ → Step
+byDlc = stepBy (λ s at. cond (leb (num 1 (drop at s) 46) (num 1 (drop at s) 35)) (faultOf (drop at s)) 9) behind

@@ -1,15 +1,16 @@
 -- 01, "What a reader of the contracts must find" and "Slips of the pen": wrong readers and writers of records.
-use Prim.Native.Nat.{ℕ, _+_}
-use mathlib.Core.List.{List}
-use lib.ListN.{length, drop}
-use Rattle.fields.specs.Numbers.{part, num}
+use Prim.Native.Nat.{ℕ, _+_, _-_}
+use mathlib.Core.List.{List, _++_}
+use lib.ListN.{length, take, drop}
+use Rattle.fields.specs.Numbers.{part, num, zeros}
 use Rattle.headers.specs.Format.{lengthAt, headerOf, bodyOf}
-use Rattle.headers.specs.Types.{Kind, overload, linMessage}
+use Rattle.headers.specs.Types.{Kind, overload, linMessage, fdMessage}
 use Rattle.objects.specs.Kinds.{Record, formatOf}
 use Rattle.objects.specs.Items.{Item, padded}
 use Rattle.outcomes.specs.declared.Written.{Written}
 use Rattle.outcomes.specs.declared.Written.the-variants.{Used}
 use Rattle.outcomes.specs.Reads.{recordIn}
+use Rattle.outcomes.specs.Writes.{bufferOf}
 
 -- reads one constant record
 abbrev pub constant : (k : Kind) → Record k → List ℕ → ℕ → Record k
@@ -32,3 +33,24 @@ originalStamp s at =
 -- answers success and leaves the buffer as it was
 abbrev pub writesNothing : Item → List ℕ → Written × List ℕ
 writesNothing i out = (Used (length (padded i)), out)
+
+-- W-208: clears the data bytes behind the valid ones
+abbrev pub validAlone : List ℕ → ℕ → Record fdMessage
+validAlone s at =
+    let r = recordIn fdMessage (drop at s) in
+    record {
+      header = r .header;
+      channel = r .channel;
+      flags = r .flags;
+      dlc = r .dlc;
+      id = r .id;
+      «frame_length» = r .«frame_length»;
+      «bit_count» = r .«bit_count»;
+      «fd_flags» = r .«fd_flags»;
+      «valid_bytes» = r .«valid_bytes»;
+      bytes = take (r .«valid_bytes») (r .bytes) ++ zeros (64 - r .«valid_bytes»);
+    }
+
+-- W-208: writes what it is given, of whatever type
+abbrev pub writesAll : Item → List ℕ → Written × List ℕ
+writesAll i out = (Used (length (padded i)), bufferOf 0 (padded i) out)

@@ -1,6 +1,7 @@
 -- Logs and bundles that the wrong programs are tried on, beside document 01's M2, M9 and M11.
 use Prim.Native.Nat.{ℕ}
 use mathlib.Core.List.{List, [], _++_}
+use lib.ListN.{replicate}
 use Rattle.fields.specs.Numbers.{zeros}
 use Rattle.headers.specs.declared.header.Origin.the-variants.{First}
 use Rattle.headers.specs.Format.{padded}
@@ -33,6 +34,12 @@ lin168 = hex "4C4F424A 2000 0100 A8000000 39000000 01000000" ++ zeros 148
 -- W-202: an overload under the second header, status 1, 1,000,000 ns, original time stamp 5, channel 1
 unfoldable pub second : List ℕ
 second = hex "4C4F424A 2800 0200 2C000000 03000000 02000000 01 00 0000 40420F0000000000 0500000000000000 0100 0000"
+
+-- W-208: a CAN FD message with DLC 3 and 64 valid bytes, unit 2, data bytes of 7
+unfoldable pub fd : List ℕ
+fd =
+    hex "4C4F424A 2000 0100 78000000 64000000 02000000 0000 0000 40420F0000000000"
+    ++ hex "0100 00 03 00010000 00000000 00 00 40 0000000000" ++ replicate 64 7 ++ zeros 4
 
 -- an object of each type under the first header whose client index is this: unit 1, and the body of the record of zeros
 unfoldable pub byClient : Kind → ℕ → List ℕ

@@ -1,20 +1,20 @@
--- 01, "What a reader of the contracts must find" and "Slips of the pen", those of W-202 and W-204 to W-207: the wrong
+-- 01, "What a reader of the contracts must find" and "Slips of the pen", those of W-202 and W-204 to W-208: the wrong
 -- programs, each beside an input on which its contract does not hold. `all-refuted` of proofs/Refuted says so of every
 -- row.
 use Prim.Native.Nat.{ℕ}
 use Prim.Native.String.{String}
 use mathlib.Core.Path.{_≡_}
 use mathlib.Core.List.{List, [], _∷_, _++_}
-use lib.ListN.{length, take, drop, set, replicate}
+use lib.ListN.{length, take, drop, getD, set, replicate}
 use Rattle.fields.specs.Numbers.{zeros}
 use Rattle.lin.specs.declared.tail.Tail.{Tail}
 use Rattle.lin.specs.declared.tail.Tail.the-variants.{Nothing, Response, Rates}
 use Rattle.objects.specs.declared.Step.{Step}
 use Rattle.objects.specs.declared.Walked.{Walked}
 use Rattle.headers.specs.declared.header.Origin.the-variants.{First}
-use Rattle.headers.specs.Types.{Kind, overload, linMessage, numberOf}
+use Rattle.headers.specs.Types.{Kind, overload, linMessage, fdMessage, numberOf}
 use Rattle.objects.specs.Kinds.{Record}
-use Rattle.objects.specs.Items.{Item, known}
+use Rattle.objects.specs.Items.{Item, known, foreign}
 use Rattle.objects.specs.Next.{nextAt}
 use Rattle.objects.specs.Walk.{walkOf}
 use Rattle.ring.specs.Ring.{ringAt}
@@ -27,7 +27,7 @@ use Rattle.tray.specs.Tray.{Trays}
 use Rattle.slips.specs.declared.pass.Verdict.{Verdict}
 use Rattle.slips.specs.Check.{checkOf}
 use Rattle.marked_examples.specs.Marked.{m2, m9, m11}
-use Rattle.wrong_programs.specs.Samples.{seventeen, nineteen, unclean, wrapping, lin168, second, m12, otherSize, otherType, strayAndTwice, paddedSize}
+use Rattle.wrong_programs.specs.Samples.{seventeen, nineteen, unclean, wrapping, lin168, second, fd, m12, otherSize, otherType, strayAndTwice, paddedSize}
 use Rattle.wrong_programs.specs.Readers as readers
 use Rattle.wrong_programs.specs.Readers.{walkBy}
 use Rattle.wrong_programs.specs.Records as records
@@ -127,6 +127,12 @@ wrongs =
     ∷ wrong "the refused message counted" (tray trays.countsRefused (bench 2) (1 ∷ 2 ∷ []) (1 ∷ 2 ∷ []) (zeros 16) (zeros 95))
     ∷ wrong "the bytes behind the messages cleared" (tray trays.clears (bench 2) (1 ∷ []) (1 ∷ []) (zeros 8) (replicate 49 7))
     ∷ wrong "the first time stamp for all messages" (tray trays.firstStamp (bench 2) (1 ∷ 2 ∷ []) (1 ∷ 2 ∷ []) (zeros 16) (zeros 96))
+    ∷ wrong "valid bytes tested against 65" (step readers.to65 (set fd 46 65) 0)
+    ∷ wrong "a CAN FD message of 116 bytes let through" (step readers.size116 (take 116 (set fd 8 116)) 0)
+    ∷ wrong "the reserved u32 of CAN FD not tested" (step readers.endUntested (set fd 119 1) 0)
+    ∷ wrong "valid bytes above the DLC refused" (step readers.byDlc fd 0)
+    ∷ wrong "the data bytes behind the valid ones cleared" (read fdMessage (λ r. getD (r .bytes) 63 0) records.validAlone (set fd 46 8) 0)
+    ∷ wrong "an old foreign copy of CAN FD written" (write records.writesAll (foreign fd) (zeros 120))
     ∷ wrong "a check that refuses everything" (check checks.refusesAll (m2 ++ m2) m11)
     ∷ wrong "a check that accepts everything" (check checks.acceptsAll (m2 ++ m2) [])
     ∷ wrong "a check that compares the first slip only" (check checks.firstSlipOnly (m2 ++ m2) m12)
