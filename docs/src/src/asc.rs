@@ -144,19 +144,20 @@ pub fn message_line(record: &CanMessage, out: &mut [u8]) -> Result<usize, Refusa
     let Some(time) = time(&record.head) else {
         return refused(number::UNIT);
     };
-    let (sent, remote) = (record.flags & 0x01 != 0, record.flags & 0x80 != 0);
+    let front = &record.front;
+    let (sent, remote) = (front.flags & 0x01 != 0, front.flags & 0x80 != 0);
     let mut line = Line::new();
     if !remote {
-        line.bytes(&record.data[..usize::from(record.dlc.min(MOST_BYTES))]);
+        line.bytes(&record.data[..usize::from(front.dlc.min(MOST_BYTES))]);
     }
-    line.decimal(record.dlc.into());
+    line.decimal(front.dlc.into());
     line.text(if remote { b" r " } else { b" d " });
     line.text(if sent { b" Tx" } else { b" Rx" });
-    if record.id >> 31 != 0 {
+    if front.id >> 31 != 0 {
         line.byte(b'x');
     }
-    line.hex(record.id & 0x7FFF_FFFF);
-    line.front(time, record.channel);
+    line.hex(front.id & 0x7FFF_FFFF);
+    line.front(time, front.channel);
     line.copy_to(out)
 }
 
@@ -195,7 +196,7 @@ pub fn statistic_line(record: &CanStatistic, out: &mut [u8]) -> Result<usize, Re
     line.copy_to(out)
 }
 
-/// Is this one of the types that become a line?
+/// Is this one of the types that become a line? 86 and 100 are not.
 fn has_line(kind: u32) -> bool {
     matches!(
         kind,
@@ -216,9 +217,9 @@ fn whole_line(kind: u32, object: &[u8], out: &mut [u8]) -> Result<usize, Refusal
     }
 }
 
-/// Are these 16 bytes or more, of a listed type, one whole object, without
-/// padding, under either header? 1 to 6 and 8 are asked, 8 of the header too; 7
-/// is not, and 9 has nothing to say to CAN.
+/// Are these 16 bytes or more, of a type that has a line, one whole object,
+/// without padding, under either header? 1 to 6 and 8 are asked, 8 of the header
+/// too; 7 is not, and 9 has nothing to say to these types.
 fn is_whole(object: &[u8], row: &Row) -> bool {
     head_holds(object)
         && u64::from(u32_at(object, 8)) == object.len() as u64

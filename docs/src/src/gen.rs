@@ -20,8 +20,8 @@ pub use bundles::{any_bundle, bundle_bytes, damaged_bundle, honest_bundle, hones
 pub use bundles::{Fault, Slip, FAULTS};
 pub use headers::{second_own, wrong_pair};
 pub use logs::{an_object, any_log, damaged_log, damaged_log_at, foreign, long_log, object};
-pub use logs::{object_under, padded, position, sound_log, twice_damaged_log};
-pub use logs::{Damage, DAMAGES, LISTED};
+pub use logs::{object_under, old_foreign, padded, position, sound_log, twice_damaged_log};
+pub use logs::{Damage, DAMAGES, FRAMES, LISTED};
 pub use records::{any_record, frame, raw_object, record, record_under};
 
 /// A tiny xorshift generator. Any seed will do, 0 too.

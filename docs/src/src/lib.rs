@@ -5,7 +5,8 @@
 //! read in two ways, points 1 to 15 of docs/DECISIONS.md hold. Document 02 has
 //! the change requests: [`asc`] is the first of them, W-201, the second header
 //! in [`header`] is W-202, the padding in [`layout`] is W-204's, the places that
-//! [`object`] tells are W-205's, [`ring`] is W-206, and [`tray`] is W-207.
+//! [`object`] tells are W-205's, [`ring`] is W-206, [`tray`] is W-207, and types
+//! 86 and 100 are W-208's.
 //!
 //! * [`header`]: the two headers and their lengths
 //! * [`layout`]: type list, reserved bytes, rules, padding, refusal numbers

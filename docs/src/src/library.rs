@@ -269,7 +269,7 @@ pub fn read(log: &[u8], at: usize, kind: u32, bytes: &mut [u8]) -> Read {
 }
 
 /// Writes an object, handed in as its bytes without padding, with its padding to the front of
-/// the bytes, one of the eleven types under the second header where it says header size 40 and
+/// the bytes, one of the thirteen types under the second header where it says header size 40 and
 /// version 2, else under the first: how many were used; or 7, 9, 10, 11.
 pub fn write(object: &[u8], bytes: &mut [u8]) -> Result<usize, Refusal> {
     let mut out = [0u64; 1];

@@ -58,10 +58,12 @@ fn statistic(record: &CanStatistic) -> String {
 fn plain(id: u32, flags: u8, dlc: u8) -> CanMessage {
     CanMessage {
         head: head(2, 1_000_000_000),
-        channel: 2,
-        flags,
-        dlc,
-        id,
+        front: CanFront {
+            channel: 2,
+            flags,
+            dlc,
+            id,
+        },
         data: [0x01, 0x23, 0x45, 0x67, 0x89, 0xAB, 0xCD, 0xEF],
     }
 }
@@ -96,10 +98,12 @@ fn record_of(told: &Told) -> Record<'static> {
     match told.event {
         Event::Message(m) => Record::CanMessage(CanMessage {
             head,
-            channel,
-            flags: u8::from(m.sent) | u8::from(m.remote) << 7,
-            dlc: m.dlc,
-            id: m.id | u32::from(m.extended) << 31,
+            front: CanFront {
+                channel,
+                flags: u8::from(m.sent) | u8::from(m.remote) << 7,
+                dlc: m.dlc,
+                id: m.id | u32::from(m.extended) << 31,
+            },
             data: m.data,
         }),
         Event::Overload => Record::CanOverload(CanOverload { head, channel }),
@@ -146,8 +150,9 @@ fn read_text(text: &str) -> Option<Told> {
 fn any_record(rng: &mut Rng, kind: u32) -> Record<'static> {
     let mut record = gen::record(rng, kind, &[]);
     if let Record::CanMessage(r) = &mut record {
-        r.dlc = rng.pick(&[0, 1, 7, 8, 9, 15, 255, r.dlc]);
-        r.id = rng.pick(&[0, 1 << 31, 0x7FF, u32::MAX, i32::MAX as u32, r.id]);
+        let front = &mut r.front;
+        front.dlc = rng.pick(&[0, 1, 7, 8, 9, 15, 255, front.dlc]);
+        front.id = rng.pick(&[0, 1 << 31, 0x7FF, u32::MAX, i32::MAX as u32, front.id]);
     }
     record
 }
@@ -530,15 +535,13 @@ fn there_and_back() {
         assert_eq!(told.kind(), kind);
         match (record, record_of(&told)) {
             (Record::CanMessage(a), Record::CanMessage(b)) => {
-                let count = match a.flags & 0x80 {
-                    0 => usize::from(a.dlc.min(8)),
+                let count = match a.front.flags & 0x80 {
+                    0 => usize::from(a.front.dlc.min(8)),
                     _ => 0,
                 };
-                assert_eq!((a.channel, a.dlc, a.id), (b.channel, b.dlc, b.id));
-                assert_eq!(
-                    (a.flags & 0x81, &a.data[..count]),
-                    (b.flags, &b.data[..count])
-                );
+                let flags = a.front.flags & 0x81;
+                assert_eq!(CanFront { flags, ..a.front }, b.front);
+                assert_eq!(a.data[..count], b.data[..count]);
                 assert_eq!(b.data[count..], [0; 8][count..]);
                 assert_eq!(nanoseconds(&a.head), nanoseconds(&b.head));
             }

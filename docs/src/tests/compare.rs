@@ -10,7 +10,7 @@ use program::judge;
 use program::replies::{tell, Break};
 
 /// The count that `tests/compare` takes by itself.
-const COUNT: usize = 20_000;
+const COUNT: usize = 24_000;
 
 /// This reader's answers, and how many cases of the sweep were left out.
 fn answers_and_left(seed: u64, count: usize) -> (Vec<u8>, usize) {

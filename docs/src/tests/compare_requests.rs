@@ -11,7 +11,7 @@ use program::replies::{tell, Break};
 
 /// The seed and count that `tests/compare-requests` takes by itself.
 const SEED: u64 = 7;
-const COUNT: usize = 40_000;
+const COUNT: usize = 41_000;
 
 fn answers_of(seed: u64, wrong: Break) -> Vec<u8> {
     let mut cases = Cases::new(seed);

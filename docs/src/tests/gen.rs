@@ -1,10 +1,12 @@
 //! The generator keeps what it promises.
 
 mod common;
+use common::refused;
 use mshelovat_reference::gen::{self, Rng};
 use mshelovat_reference::header::Header;
 use mshelovat_reference::layout::u32_at;
 use mshelovat_reference::object::{step, walk, Answer, Object};
+use mshelovat_reference::records::write_foreign;
 use mshelovat_reference::slips::check;
 use std::collections::BTreeSet;
 
@@ -73,8 +75,8 @@ fn sound_logs_hold_every_padding() {
 #[test]
 fn objects_under_a_header() {
     let mut rng = Rng(49);
-    for turn in 0..440 {
-        let (kind, header) = (gen::LISTED[turn % 11], Header::BOTH[turn / 11 % 2]);
+    for turn in 0..520 {
+        let (kind, header) = (gen::LISTED[turn % 13], Header::BOTH[turn / 13 % 2]);
         let object = gen::object_under(&mut rng, header, kind);
         assert_eq!(Header::named(&object), Some(header));
         assert_eq!(walk(&gen::padded(object)), Ok(1));
@@ -139,6 +141,8 @@ fn damages_reach_every_reserved_byte() {
             (50, &[39, 59, 72, 73, 74, 75]),
             (57, &[46, 47, 161, 162, 163]),
             (62, &[46, 47, 51]),
+            (86, &[53, 54, 55]),
+            (100, &[47, 48, 49, 50, 51, 116, 117, 118, 119]),
             (120, &[60, 61, 62, 63]),
             (121, &[60, 61, 62, 63]),
         ] {
@@ -152,6 +156,80 @@ fn damages_reach_every_reserved_byte() {
     assert_eq!(places(54, gen::Damage::TwoReserved), first);
     let gaps = gen::LISTED.map(|kind| (kind, true, 21));
     assert_eq!(places(55, gen::Damage::HeaderReserved), gaps.into());
+}
+
+/// The sizes with which types 86 and 100 passed as foreign objects: type, is it the second header,
+/// and the size. 116 is python-can's.
+#[test]
+fn damages_reach_sizes_that_were_foreign() {
+    let mut rng = Rng(57);
+    let mut sizes = BTreeSet::new();
+    for _ in 0..20_000 {
+        let log = gen::damaged_log(&mut rng, 0, gen::Damage::WrongSize);
+        let second = Header::of(&log) == Header::Second;
+        sizes.insert((u32_at(&log, 12), second, u32_at(&log, 8)));
+    }
+    for second in [false, true] {
+        for size in [48, 52, 60] {
+            assert!(sizes.contains(&(86, second, size)), "{second} {size}");
+        }
+        let size = if second { 124 } else { 116 };
+        assert!(sizes.contains(&(100, second, size)), "{second} {size}");
+    }
+}
+
+/// Valid bytes on both sides of their rule, under both headers: 0 and 64 are sound, with data behind
+/// the valid bytes too; 65, 128 and 255 are not.
+#[test]
+fn valid_bytes_on_both_sides() {
+    let mut rng = Rng(58);
+    for header in Header::BOTH {
+        let valid = header.length() + 14;
+        let (mut sound, mut behind) = (BTreeSet::new(), 0);
+        for _ in 0..500 {
+            let object = gen::object_under(&mut rng, header, 100);
+            let data = &object[valid + 6..valid + 70];
+            sound.insert(object[valid]);
+            let past = &data[usize::from(object[valid])..];
+            behind += usize::from(past.iter().any(|b| *b != 0));
+        }
+        assert!([0, 64].iter().all(|valid| sound.contains(valid)));
+        assert!(sound.len() > 40 && sound.iter().all(|valid| *valid <= 64));
+        assert!(behind > 200);
+    }
+    let mut wrong = BTreeSet::new();
+    for _ in 0..500 {
+        let log = gen::damaged_log(&mut rng, 0, gen::Damage::ValidBytes);
+        let header = Header::of(&log).length();
+        wrong.insert((header, log[header + 14]));
+    }
+    assert!(wrong.iter().all(|(_, valid)| *valid > 64));
+    for header in Header::BOTH {
+        let met = |valid| wrong.contains(&(header.length(), valid));
+        assert!([65, 128, 255].into_iter().all(met));
+    }
+}
+
+/// Old copies of types 86 and 100 would be foreign objects if these types were; some are sound
+/// objects of them, and some are as long as python-can's.
+#[test]
+fn old_copies_would_be_foreign() {
+    let mut rng = Rng(59);
+    for kind in [86, 100] {
+        let (mut sound, mut lengths) = (0, BTreeSet::new());
+        for _ in 0..300 {
+            let mut copy = gen::old_foreign(&mut rng, kind);
+            assert_eq!(u32_at(&copy, 12), kind);
+            assert_eq!(write_foreign(&copy, &mut [0; 2_100]), refused(11, 0));
+            sound += usize::from(walk(&gen::padded(copy.clone())) == Ok(1));
+            lengths.insert(copy.len());
+            copy[12] = 96;
+            assert!(write_foreign(&copy, &mut [0; 2_100]).is_ok());
+        }
+        assert!(sound > 30 && lengths.len() > 30);
+        let short = if kind == 86 { [52, 60] } else { [116, 124] };
+        assert!(short.iter().all(|length| lengths.contains(length)));
+    }
 }
 
 /// Every byte of one, two and three bytes of padding, and every one before another.

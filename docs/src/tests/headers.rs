@@ -1,4 +1,4 @@
-//! W-202: the two headers. What each of the eleven types gives under both is in
+//! W-202: the two headers. What each of the thirteen types gives under both is in
 //! records.rs and refusals.rs; here is what came with the second one.
 
 mod common;

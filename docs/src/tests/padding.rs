@@ -264,33 +264,44 @@ fn foreign_objects_written() {
     }
 }
 
-/// As python-can writes it: type 100, which is foreign, with header size 32 and
-/// version 1, and as many zero bytes as the size leaves over.
-#[test]
-fn python_can() {
+/// As python-can writes type 100: header size 32 and version 1, and as many zero
+/// bytes as the size leaves over; here of any type.
+fn as_python_can(kind: u8) -> Vec<u8> {
     let mut log = Vec::new();
     for size in [104, 105, 106, 107] {
         let mut object = foreign(size, 32);
         object[6] = 1;
-        object[12..16].copy_from_slice(&[100, 0, 0, 0]);
+        object[12..16].copy_from_slice(&[kind, 0, 0, 0]);
         object[32..].fill(0xCD);
         object.resize((size + size - 104) as usize, 0);
         log.extend(object);
     }
+    log
+}
+
+/// Type 100 is not foreign any more (W-208), and has none of these sizes; type 96
+/// is.
+#[test]
+fn python_can() {
+    let log = as_python_can(100);
+    for start in [0, 104, 210, 318] {
+        assert_eq!(walk(&log[start..]), refused(3, 8));
+    }
+    let log = as_python_can(96);
     assert_eq!(log.len(), 428);
     assert_eq!(walk(&log), Ok(4));
-    let text = "0 104 100\n104 105 100\n210 106 100\n318 107 100\nend 428 objects 4\n";
+    let text = "0 104 96\n104 105 96\n210 106 96\n318 107 96\nend 428 objects 4\n";
     assert_eq!(lister(&log), text);
     let mut out = vec![7; 430];
     assert_eq!(rewrite(&log, &mut out), Ok(428));
     assert_eq!((&out[..428], &out[428..]), (&log[..], &[7, 7][..]));
-    let one = [(0, 104, 100), (210, 106, 100)];
-    let two = [(104, 105, 100), (318, 107, 100)];
+    let one = [(0, 104, 96), (210, 106, 96)];
+    let two = [(104, 105, 96), (318, 107, 96)];
     let bundle = joined(&[slip(1, &one), slip(2, &two)]);
     assert_eq!(check_plain(&log, &bundle), Ok(4));
     assert_eq!(desk(Some(&log), Some(&bundle)), "accepted 4\n");
     // The last one counted with its padding, and without its last zero.
-    let padded = joined(&[slip(1, &one), slip(2, &[two[0], (318, 110, 100)])]);
+    let padded = joined(&[slip(1, &one), slip(2, &[two[0], (318, 110, 96)])]);
     assert_eq!(desk(Some(&log), Some(&padded)), "refused 25 at 318\n");
     assert_eq!(desk(Some(&log[..427]), Some(&bundle)), "refused 5 at 427\n");
 }

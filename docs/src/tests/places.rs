@@ -24,7 +24,7 @@ fn refusal_of<R>(read: Read<R>, position: usize) -> (Option<Refusal>, usize) {
 }
 
 /// The same of each call that reads a record.
-fn all_reads(log: &[u8], at: usize) -> [(Option<Refusal>, usize); 12] {
+fn all_reads(log: &[u8], at: usize) -> [(Option<Refusal>, usize); 14] {
     [
         refusal_of(read_can_message(log, at), at),
         refusal_of(read_can_overload(log, at), at),
@@ -32,6 +32,8 @@ fn all_reads(log: &[u8], at: usize) -> [(Option<Refusal>, usize); 12] {
         refusal_of(read_flexray_receive(log, at), at),
         refusal_of(read_lin_message(log, at), at),
         refusal_of(read_lin_wake_up(log, at), at),
+        refusal_of(read_can_message_2(log, at), at),
+        refusal_of(read_can_fd_message(log, at), at),
         refusal_of(read_ethernet_status(log, at), at),
         refusal_of(read_ethernet_frame(log, at), at),
         refusal_of(read_forwarded_frame(log, at), at),
@@ -45,7 +47,7 @@ fn all_reads(log: &[u8], at: usize) -> [(Option<Refusal>, usize); 12] {
 /// caller goes on from there.
 fn told_at(log: &[u8], at: usize, refusal: Refusal) {
     assert_eq!(step(log, at), Answer::Refused(refusal), "at {at}");
-    assert_eq!(all_reads(log, at), [(Some(refusal), at); 12]);
+    assert_eq!(all_reads(log, at), [(Some(refusal), at); 14]);
     let mut out = [7; 200];
     let line = asc::line_at(log, at, &mut out);
     assert_eq!(line, LineAt::Refused(refusal));
@@ -149,7 +151,7 @@ fn size_of(object: &[u8]) -> usize {
 
 #[test]
 fn what_these_tests_damage_is_sound() {
-    assert_eq!(listed().len(), 26);
+    assert_eq!(listed().len(), 30);
     for object in listed().into_iter().chain(foreigners()) {
         assert_eq!(walk(&object), Ok(1));
         assert_eq!(object.len(), size_of(&object) + size_of(&object) % 4);
@@ -301,6 +303,8 @@ fn reserved_of(kind: u8) -> &'static [usize] {
         50 => &[39, 59, 72, 73, 74, 75],
         57 => &[46, 47, 161, 162, 163],
         62 => &[46, 47, 51],
+        86 => &[53, 54, 55],
+        100 => &[47, 48, 49, 50, 51, 116, 117, 118, 119],
         120 | 121 => &[60, 61, 62, 63],
         _ => &[],
     }
@@ -330,10 +334,11 @@ fn reserved_is_told_at_its_first_wrong_byte() {
             told(&with_set(&object, &reserved[at..]), 8, *first);
         }
     }
-    // Types 3, 50, 57 (three times), 62, 120, 121, and eleven gaps (and two).
-    let body = 2 + 6 + 3 * 5 + 3 + 4 + 4;
-    assert_eq!(alone, 2 * body + 13);
-    let of_body = 1 + 15 + 3 * 10 + 3 + 6 + 6;
+    // Types 3, 50, 57 (three times), 62, 86, 100, 120, 121, and thirteen gaps
+    // (and two).
+    let body = 2 + 6 + 3 * 5 + 3 + 3 + 9 + 4 + 4;
+    assert_eq!(alone, 2 * body + 15);
+    let of_body = 1 + 15 + 3 * 10 + 3 + 3 + 36 + 6 + 6;
     assert_eq!(pairs, 2 * of_body + body);
 }
 
@@ -407,6 +412,19 @@ fn rates_are_told_at_the_exact_rate() {
     }
 }
 
+/// 9, CAN FD: the valid bytes, whatever the DLC is.
+#[test]
+fn valid_bytes_are_told_at_their_field() {
+    for object in both(bare(100, 120)) {
+        let (dlc, valid) = (moved(&object, 35), moved(&object, 46));
+        for wrong in [65, 66, 127, 128, 255] {
+            let broken = with(&object, valid, &[wrong]);
+            told(&broken, 9, valid);
+            told(&with(&broken, dlc, &[8]), 9, valid);
+        }
+    }
+}
+
 /// 8 comes before 9, whatever stands first.
 #[test]
 fn reserved_is_told_before_content() {
@@ -423,6 +441,12 @@ fn reserved_is_told_before_content() {
     }
     for object in both(bare(57, 184)) {
         let broken = with(&object, moved(&object, 168), &[0xFF; 8]);
+        for at in reserved_in(&object) {
+            told(&with_set(&broken, &[at]), 8, at);
+        }
+    }
+    for object in both(bare(100, 120)) {
+        let broken = with(&object, moved(&object, 46), &[65]);
         for at in reserved_in(&object) {
             told(&with_set(&broken, &[at]), 8, at);
         }
@@ -449,8 +473,8 @@ fn every_object_is_told_by_itself() {
 fn writing_tells_place_0() {
     let mut rng = Rng(52);
     let mut met = [0; 12];
-    for turn in 0..4_400 {
-        let kind = gen::LISTED[turn % 11];
+    for turn in 0..5_200 {
+        let kind = gen::LISTED[turn % 13];
         let object = gen::raw_object(&mut rng, kind);
         let mut out = vec![7; rng.below(600)];
         let written = write_any(&record_in(kind, &object), &mut out);
@@ -494,17 +518,21 @@ fn slips_are_told_as_before() {
     }
 }
 
-/// The lists that tests and places come from are in the order of the bytes.
+/// The lists that tests and places come from are in the order of the bytes, and
+/// the types rise.
 #[test]
 fn the_type_list_is_in_order() {
+    let types = [1, 3, 4, 50, 57, 62, 86, 100, 103, 120, 121, 122, 123];
+    assert_eq!(TYPE_LIST.map(|row| row.kind), types);
+    assert_eq!(gen::LISTED, types);
     for row in &TYPE_LIST {
         assert!(row.reserved.is_sorted(), "{}", row.event);
         let runs: Vec<&[usize]> = row.runs().collect();
         assert_eq!(runs.concat(), row.reserved);
         let count = match row.kind {
             50 => 3,
-            57 | 62 => 2,
-            3 | 120 | 121 => 1,
+            57 | 62 | 100 => 2,
+            3 | 86 | 120 | 121 => 1,
             _ => 0,
         };
         assert_eq!(runs.len(), count, "{}", row.event);

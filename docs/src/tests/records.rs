@@ -57,6 +57,7 @@ fn counted(kind: u32, size: u32) -> Vec<u8> {
     match kind {
         50 => object[56..58].copy_from_slice(&[200, 0]),
         57 if size == 184 => object[175] = 0x40,
+        100 => object[46] = 40,
         120..=123 => {
             object[32..34].copy_from_slice(&[32, 0]);
             object[54..56].copy_from_slice(&((size - 64) as u16).to_le_bytes());
@@ -84,10 +85,10 @@ fn offsets_of_can() {
         let r = record_at(read_can_message(&object, 0));
         expect_head(&object, &r.head);
         let fields = [
-            (r.channel as u64, 32, 2),
-            (r.flags as u64, 34, 1),
-            (r.dlc as u64, 35, 1),
-            (r.id as u64, 36, 4),
+            (r.front.channel as u64, 32, 2),
+            (r.front.flags as u64, 34, 1),
+            (r.front.dlc as u64, 35, 1),
+            (r.front.id as u64, 36, 4),
             (u64::from_le_bytes(r.data), 40, 8),
         ];
         expect(&object, &fields);
@@ -111,6 +112,44 @@ fn offsets_of_can() {
             (r.overload as u64, 56, 4),
         ];
         expect(&object, &fields);
+    }
+}
+
+#[test]
+fn offsets_of_can_message_2() {
+    for object in counted_both(86, 56) {
+        let r = record_at(read_can_message_2(&object, 0));
+        expect_head(&object, &r.message.head);
+        let fields = [
+            (r.message.front.channel as u64, 32, 2),
+            (r.message.front.flags as u64, 34, 1),
+            (r.message.front.dlc as u64, 35, 1),
+            (r.message.front.id as u64, 36, 4),
+            (u64::from_le_bytes(r.message.data), 40, 8),
+            (r.frame_length as u64, 48, 4),
+            (r.bit_count as u64, 52, 1),
+        ];
+        expect(&object, &fields);
+    }
+}
+
+#[test]
+fn offsets_of_can_fd() {
+    for object in counted_both(100, 120) {
+        let r = record_at(read_can_fd_message(&object, 0));
+        expect_head(&object, &r.head);
+        let fields = [
+            (r.front.channel as u64, 32, 2),
+            (r.front.flags as u64, 34, 1),
+            (r.front.dlc as u64, 35, 1),
+            (r.front.id as u64, 36, 4),
+            (r.frame_length as u64, 40, 4),
+            (r.arbitration_bit_count as u64, 44, 1),
+            (r.fd_flags as u64, 45, 1),
+            (r.valid_bytes as u64, 46, 1),
+        ];
+        expect(&object, &fields);
+        assert_eq!(r.data, object[moved(&object, 52)..moved(&object, 116)]);
     }
 }
 
@@ -308,8 +347,8 @@ fn every_free_byte_is_kept() {
 #[test]
 fn write_read_round_trips() {
     let mut rng = Rng(1);
-    for turn in 0..11_000 {
-        let (kind, header) = (gen::LISTED[turn % 11], Header::BOTH[turn / 11 % 2]);
+    for turn in 0..13_000 {
+        let (kind, header) = (gen::LISTED[turn % 13], Header::BOTH[turn / 13 % 2]);
         let frame = gen::frame(&mut rng);
         let record = gen::record_under(&mut rng, header, kind, &frame);
         let mut out = vec![0xEE; 2_048];
@@ -340,6 +379,8 @@ fn expected_number(record: &Record) -> Option<u8> {
         }
         Record::LinMessage(r) => (r.head.unit, tail_holds(&r.tail)),
         Record::LinWakeUp(r) => (r.head.unit, true),
+        Record::CanMessage2(r) => (r.message.head.unit, true),
+        Record::CanFdMessage(r) => (r.head.unit, r.valid_bytes <= 64),
         Record::EthernetStatus(r) => (r.head.unit, true),
         Record::EthernetFrame(r) | Record::ForwardedFrame(r) => {
             (r.head.unit, r.frame.len() <= 1_612)
@@ -372,8 +413,8 @@ fn tail_holds(tail: &LinTail) -> bool {
 fn any_records_are_judged() {
     let mut rng = Rng(2);
     let mut met = [0; 12];
-    for turn in 0..11_000 {
-        let kind = gen::LISTED[turn % 11];
+    for turn in 0..13_000 {
+        let kind = gen::LISTED[turn % 13];
         let length = rng.from_to(1_600, 1_620);
         let frame = rng.bytes(length);
         let record = gen::any_record(&mut rng, kind, &frame);

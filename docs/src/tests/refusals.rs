@@ -41,7 +41,7 @@ fn every_type_finds_its_row() {
     for listed in &TYPE_LIST {
         assert_eq!(row(listed.kind).map(|found| found.kind), Some(listed.kind));
     }
-    for foreign in [0, 2, 5, 119, 124, 9_999, u32::MAX] {
+    for foreign in [0, 2, 5, 85, 87, 99, 101, 119, 124, 9_999, u32::MAX] {
         assert!(row(foreign).is_none(), "{foreign}");
     }
 }
@@ -134,7 +134,7 @@ fn unit_and_kept_header_fields() {
 
 #[test]
 fn reserved_bytes_and_no_others() {
-    let reserved: [(u32, u32, &[usize]); 9] = [
+    let reserved: [(u32, u32, &[usize]); 11] = [
         (1, 48, &[]),
         (3, 36, &[34, 35]),
         (4, 60, &[]),
@@ -143,6 +143,8 @@ fn reserved_bytes_and_no_others() {
         (57, 168, &[46, 47, 161, 162, 163]),
         (57, 184, &[46, 47, 161, 162, 163]),
         (62, 52, &[46, 47, 51]),
+        (86, 56, &[53, 54, 55]),
+        (100, 120, &[47, 48, 49, 50, 51, 116, 117, 118, 119]),
         (103, 48, &[]),
     ];
     for (kind, size, reserved) in reserved {
@@ -241,7 +243,7 @@ fn harmed(log: &[u8], number: u8) -> usize {
     }
 }
 
-/// The order of the tests, for the eleven types.
+/// The order of the tests, for the thirteen types.
 const ORDER: [u8; 8] = [2, 4, 3, 5, 6, 7, 8, 9];
 
 #[test]

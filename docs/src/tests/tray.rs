@@ -8,7 +8,7 @@ use mshelovat_reference::gen::{self, Rng};
 use mshelovat_reference::layout::Refusal;
 use mshelovat_reference::object::walk;
 use mshelovat_reference::records::{read_can_message, write_can_message};
-use mshelovat_reference::records::{CanMessage, Head, Own, Read};
+use mshelovat_reference::records::{CanFront, CanMessage, Head, Own, Read};
 use mshelovat_reference::tray::{write, Common, Trayed};
 
 /// What a buffer holds before a call: bytes unlike their neighbours.
@@ -42,10 +42,12 @@ impl Tray {
                 version: self.common.version,
                 time: self.stamps[number],
             },
-            channel: self.common.channel,
-            flags: self.common.flags,
-            dlc: self.common.dlc,
-            id: self.ids[number],
+            front: CanFront {
+                channel: self.common.channel,
+                flags: self.common.flags,
+                dlc: self.common.dlc,
+                id: self.ids[number],
+            },
             data: self.data[8 * number..8 * number + 8].try_into().unwrap(),
         }
     }
@@ -343,7 +345,7 @@ fn messages() {
         let tray = any_tray(&mut rng);
         for number in 0..tray.ids.len() {
             let message = tray.message(number);
-            let own = (message.id, message.head.time, message.data);
+            let own = (message.front.id, message.head.time, message.data);
             assert_eq!(tray.common.message(own.0, own.1, own.2), message);
         }
     }

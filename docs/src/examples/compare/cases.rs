@@ -1,6 +1,6 @@
-//! The cases: by a sweep over the two headers, over the padding, over the places of refusals, and over the bytes,
-//! lengths and rooms of one object of each type under each header and of a bundle, and at random.
-use super::{headers, padding, places};
+//! The cases: by a sweep over the two headers, over the padding, over the places of refusals, over types 86 and 100,
+//! and over the bytes, lengths and rooms of one object of each type under each header and of a bundle, and at random.
+use super::{can_fd, headers, padding, places};
 use mshelovat_reference::gen::{self, Rng, DAMAGES, FAULTS, LISTED};
 use mshelovat_reference::header::Header;
 use mshelovat_reference::layout::{self, kind, occupied, put, u32_at};
@@ -167,6 +167,7 @@ fn sweep(rng: &mut Rng) -> Vec<Case> {
     let mut cases = headers::sweep(rng);
     cases.extend(padding::sweep(rng));
     cases.extend(places::sweep(rng));
+    cases.extend(can_fd::sweep(rng));
     let mut objects = Header::BOTH.map(|header| one_of_each(rng, header)).concat();
     objects.push(gen::foreign(rng));
     for object in objects {
@@ -193,7 +194,7 @@ fn bytes_of(object: &[u8]) -> impl Iterator<Item = usize> {
 }
 
 /// An object and its padding, read: cut off around its header and its end, and each byte changed. A foreign one is
-/// asked for as one of the eleven.
+/// asked for as one of the thirteen.
 fn sweep_reads(rng: &mut Rng, object: &[u8], cases: &mut Vec<Case>) {
     let kind = u32_at(object, 12);
     let wanted = if LISTED.contains(&kind) { kind } else { 1 };
@@ -352,21 +353,27 @@ fn any_room(rng: &mut Rng, length: usize) -> usize {
     }
 }
 
-/// Bytes to be written as the object that they are: each of the eleven types in turn, and foreign ones.
+/// Bytes to be written as the object that they are: each of the thirteen types in turn, and foreign ones.
 fn any_object(rng: &mut Rng, turn: usize) -> Vec<u8> {
-    match LISTED.get(turn % 14) {
+    match LISTED.get(turn % 16) {
         Some(kind) => gen::raw_object(rng, *kind),
-        None => foreign_only(rng, turn / 14),
+        None => foreign_only(rng, turn / 16),
     }
 }
 
-/// Bytes offered as foreign: objects of the eleven types too.
+/// Bytes offered as foreign: objects of the thirteen types too, and old copies of the two that were foreign.
 fn any_foreign(rng: &mut Rng, turn: usize) -> Vec<u8> {
-    if turn % 8 == 7 {
-        let kind = rng.pick(&LISTED);
-        return gen::object(rng, kind);
+    match turn % 8 {
+        6 => {
+            let kind = rng.pick(&[kind::CAN_MESSAGE_2, kind::CAN_FD_MESSAGE]);
+            gen::old_foreign(rng, kind)
+        }
+        7 => {
+            let kind = rng.pick(&LISTED);
+            gen::object(rng, kind)
+        }
+        _ => foreign_only(rng, turn),
     }
-    foreign_only(rng, turn)
 }
 
 /// A foreign object, sound or damaged. Its type stays foreign.

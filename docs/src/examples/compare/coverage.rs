@@ -1,11 +1,12 @@
 //! What came, and what must come.
-use super::cases::Case;
+use super::cases::{whole, Case};
 use super::places_seen;
 use super::replies::Told;
 use mshelovat_reference::gen::LISTED;
 use mshelovat_reference::header::{body, Header, SIGNATURE, STATUS_GAP};
-use mshelovat_reference::layout::{number, row, u16_at, u32_at, u64_at, FRAME_START};
+use mshelovat_reference::layout::{kind, number, put, row, u16_at, u32_at, u64_at, FRAME_START};
 use mshelovat_reference::object::{has_frame, step, Answer, Object};
+use mshelovat_reference::records::write_foreign;
 use std::collections::BTreeMap;
 
 const READ: [&str; 2] = ["read, first header", "read, second header"];
@@ -52,6 +53,11 @@ const OLD: [&str; 2] = [
     "refused, foreign, padded as document 01 had it",
 ];
 
+/// Header (1 or 2).
+const VALID: &str = "not written for the valid bytes, by header";
+/// The type of what is offered as a foreign object and would be one if that type were foreign.
+const COPY: &str = "not written as a foreign object for its type alone, by type";
+
 /// What must come, and with which numbers.
 fn musts() -> Vec<(&'static str, Vec<u64>)> {
     let types = LISTED.map(u64::from).to_vec();
@@ -63,13 +69,14 @@ fn musts() -> Vec<(&'static str, Vec<u64>)> {
     musts.extend(by_size.map(|what| (*what, vec![0, 1, 2, 3])));
     musts.extend(START_OVER.map(|(what, over)| (what, over.to_vec())));
     musts.extend(OLD.map(|what| (what, vec![1, 2, 5, 6])));
+    musts.extend([(VALID, vec![1, 2]), (COPY, vec![86, 100])]);
     musts.extend(places_seen::musts());
     musts
 }
 
 /// How often each refusal came, and each type was read and written under each header; what the refusals showed of the
-/// headers, of the padding and of their places; what sizes and starts left over; what else came, by question. Of the
-/// records read: the bits of both time stamps.
+/// headers, of the padding and of their places; what was not written; what sizes and starts left over; what else came,
+/// by question. Of the records read: the bits of both time stamps.
 #[derive(Default)]
 pub struct Seen {
     times: BTreeMap<&'static str, BTreeMap<u64, usize>>,
@@ -84,6 +91,9 @@ impl Seen {
                 self.count("refused", number);
                 if question <= 5 && number <= 9 {
                     self.note_refusal(case, number as u8, place as usize);
+                }
+                if question > 5 {
+                    self.note_not_written(case, number as u8);
                 }
             }
             (5, 6) => self.note_record(case.wanted(), &told.behind),
@@ -110,6 +120,21 @@ impl Seen {
         }
         for (what, came) in places_seen::shown(case, number, place, start) {
             self.count(what, came);
+        }
+    }
+
+    /// What it shows that an object was not written.
+    fn note_not_written(&mut self, case: &Case, number: u8) {
+        match (case.question, number) {
+            (6, number::CONTENT) if u32_at(&case.log, 12) == kind::CAN_FD_MESSAGE => {
+                self.count(VALID, Header::of(&case.log) as u64 + 1);
+            }
+            (7, number::NOT_FOREIGN) => {
+                if let Some(kind) = no_foreign_type(&case.log) {
+                    self.count(COPY, kind.into());
+                }
+            }
+            _ => {}
         }
     }
 
@@ -250,6 +275,15 @@ fn without_gap(log: &[u8], start: usize) -> Option<u8> {
         Answer::Refused(refusal) => Some(refusal.number),
         _ => None,
     }
+}
+
+/// The type of these bytes, where nothing else keeps them from being a foreign object.
+fn no_foreign_type(object: &[u8]) -> Option<u32> {
+    let kind = u32_at(object.get(..16)?, 12);
+    let mut foreign = object.to_vec();
+    put(&mut foreign, 12, &9_999u32.to_le_bytes());
+    let written = write_foreign(&foreign, &mut vec![0; whole(object)]);
+    written.is_ok().then_some(kind)
 }
 
 /// The objects that were let through where nothing was refused: that at the position, or all of a log.

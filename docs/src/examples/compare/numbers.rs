@@ -1,5 +1,5 @@
-//! A record as numbers: six of its header, then field by field in the order of document 01's table. What a read must
-//! find.
+//! A record as numbers: six of its header, then field by field in the order of document 01's table and of W-208. What a
+//! read must find.
 use mshelovat_reference::records::*;
 
 /// The fields of a record as numbers, and the frame it was read with.
@@ -30,10 +30,14 @@ fn head(head: &Head) -> Vec<u64> {
     row![head.unit, header, at_20, head.version, head.time, original]
 }
 
+/// What stands first in types 1, 86 and 100.
+fn front(front: &CanFront) -> Vec<u64> {
+    row![front.channel, front.flags, front.dlc, front.id]
+}
+
 impl Numbers for CanMessage {
     fn numbers(&self) -> Vec<u64> {
-        let fields = row![self.channel, self.flags, self.dlc, self.id];
-        [head(&self.head), fields, each(&self.data)].concat()
+        [head(&self.head), front(&self.front), each(&self.data)].concat()
     }
 }
 
@@ -56,6 +60,26 @@ impl Numbers for CanStatistic {
             self.overload,
         ];
         [head(&self.head), fields].concat()
+    }
+}
+
+impl Numbers for CanMessage2 {
+    fn numbers(&self) -> Vec<u64> {
+        let fields = row![self.frame_length, self.bit_count];
+        [self.message.numbers(), fields].concat()
+    }
+}
+
+impl Numbers for CanFdMessage {
+    fn numbers(&self) -> Vec<u64> {
+        let fields = row![
+            self.frame_length,
+            self.arbitration_bit_count,
+            self.fd_flags,
+            self.valid_bytes,
+        ];
+        let front = [head(&self.head), front(&self.front), fields].concat();
+        [front, each(&self.data)].concat()
     }
 }
 

@@ -1,5 +1,5 @@
 //! What a refusal shows of its place (W-205), and what must be shown. All of it is told by the bytes of the log and by
-//! offsets that were taken from document 01 once more, not by the reader's own list.
+//! offsets that were taken from document 01 and from W-208 once more, not by the reader's own list.
 use super::cases::Case;
 use mshelovat_reference::gen::LISTED;
 use mshelovat_reference::header::{body, Header, SIGNATURE};
@@ -19,7 +19,9 @@ const LETTER: &str = "refused for a letter of the signature";
 /// By type.
 const SIZE: &str = "refused for the size, by type";
 const FOREIGN_SIZE: &str = "refused for the size, foreign";
-/// What is wrong with the header of one of the eleven types, by type; and with that of a foreign object: below 16 (0)
+/// Header, then type and size in three digits each: sizes with which types 86 and 100 passed as foreign before W-208.
+const OLD_SIZE: &str = "refused for a size of types 86 and 100, by header, type and size";
+/// What is wrong with the header of one of the thirteen types, by type; and with that of a foreign object: below 16 (0)
 /// or above the size (1).
 const PAIR: [&str; 4] = [
     "refused for the header size, by type",
@@ -55,15 +57,28 @@ const COUNT: [&str; 3] = [
     "refused for the data count, above both",
 ];
 const RATE: &str = "refused for the exact rate";
+const VALID: &str = "refused for the valid bytes";
+const RESERVED_AND_VALID: &str = "refused for a reserved byte, the valid bytes being wrong too";
 
 /// The reserved bytes of the types that have some behind the header, counted under the first.
-const BYTES: [(u64, &[u64]); 6] = [
+const BYTES: [(u64, &[u64]); 8] = [
     (3, &[34, 35]),
     (50, &[39, 59, 72, 73, 74, 75]),
     (57, &[46, 47, 161, 162, 163]),
     (62, &[46, 47, 51]),
+    (86, &[53, 54, 55]),
+    (100, &[47, 48, 49, 50, 51, 116, 117, 118, 119]),
     (120, &[60, 61, 62, 63]),
     (121, &[60, 61, 62, 63]),
+];
+
+/// Sizes of types 86 and 100 that must be refused under each header: they are loggers' own, the other header's, or next
+/// to the right ones. 116 is python-can's of type 100, and 124 would be under the second header.
+const OLD_SIZES: [(u64, u64, &[u64]); 4] = [
+    (1, 86, &[48, 52, 60, 64]),
+    (2, 86, &[48, 52, 56, 60]),
+    (1, 100, &[116, 124, 128]),
+    (2, 100, &[116, 120, 124]),
 ];
 
 /// A thing that must come, with its numbers.
@@ -75,6 +90,7 @@ pub fn musts() -> Vec<Must> {
     let mut musts = vec![(LETTER, (0..4).collect())];
     musts.extend(BEHIND.map(|what| (what, (2..=9).collect())));
     musts.extend([(SIZE, types.clone()), (FOREIGN_SIZE, vec![3])]);
+    musts.push((OLD_SIZE, old_sizes()));
     musts.extend(PAIR.map(|what| (what, types.clone())));
     musts.push((FOREIGN_PAIR, vec![0, 1]));
     musts.extend([(CUT[0], vec![1, 2, 3]), (CUT[1], vec![2, 3])]);
@@ -86,7 +102,15 @@ pub fn musts() -> Vec<Must> {
     musts.extend(frames.map(|what| (what, under_both(&[120, 121, 122, 123]))));
     musts.extend(COUNT.map(|what| (what, under_both(&[50]))));
     musts.push((RATE, under_both(&[57])));
+    musts.extend([VALID, RESERVED_AND_VALID].map(|what| (what, under_both(&[100]))));
     musts
+}
+
+fn old_sizes() -> Vec<u64> {
+    let keys = |(header, kind, sizes): (u64, u64, &'static [u64])| {
+        sizes.iter().map(move |size| key(header, kind, *size))
+    };
+    OLD_SIZES.into_iter().flat_map(keys).collect()
 }
 
 /// These types under both headers.
@@ -153,7 +177,6 @@ pub fn shown(case: &Case, number: u8, place: usize, start: usize) -> Vec<Came> {
     }
     came.extend(match number {
         2 => refused.letter(),
-        3 => refused.size(),
         4 => refused.pair(),
         5 => refused.cut(),
         7 => (refused.at == 16).then(|| (UNIT, refused.by_header())),
@@ -161,6 +184,7 @@ pub fn shown(case: &Case, number: u8, place: usize, start: usize) -> Vec<Came> {
         _ => None,
     });
     match number {
+        3 => came.extend(refused.size()),
         6 => came.extend(refused.zeros()),
         8 => came.extend(refused.reserved()),
         _ => {}
@@ -179,12 +203,17 @@ impl Refused<'_> {
         (self.at == 0).then_some((LETTER, differs as u64))
     }
 
-    fn size(&self) -> Option<Came> {
-        let came = match self.foreign {
-            true => (FOREIGN_SIZE, 3),
-            false => (SIZE, self.kind.into()),
-        };
-        (self.at == 8).then_some(came)
+    fn size(&self) -> Vec<Came> {
+        let size = u64::from(u32_at(self.object, 8));
+        match (self.at, self.foreign, self.kind) {
+            (8, true, _) => vec![(FOREIGN_SIZE, 3)],
+            (8, false, 86 | 100) if size < 1_000 => {
+                let old = key(self.header as u64 + 1, self.kind.into(), size);
+                vec![(SIZE, self.kind.into()), (OLD_SIZE, old)]
+            }
+            (8, false, kind) => vec![(SIZE, kind.into())],
+            _ => Vec::new(),
+        }
     }
 
     fn pair(&self) -> Option<Came> {
@@ -239,6 +268,8 @@ impl Refused<'_> {
         let later = bytes.any(|b| *b > byte as u64 && self.object[*b as usize + more] != 0);
         let mut came = vec![(RESERVED, key)];
         came.extend(later.then_some((LATER_RESERVED, key)));
+        let valid = self.kind == 100 && body(self.object)[14] > 64;
+        came.extend(valid.then(|| (RESERVED_AND_VALID, self.by_header())));
         came
     }
 
@@ -258,6 +289,7 @@ impl Refused<'_> {
                 (false, true) => COUNT[1],
                 _ => COUNT[2],
             },
+            14 if self.kind == 100 && body[14] > 64 => VALID,
             136 => RATE,
             _ => return None,
         };

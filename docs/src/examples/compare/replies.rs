@@ -182,6 +182,8 @@ fn read_reply(case: &Case, wrong: Break) -> Told {
         kind::FLEXRAY_RECEIVE => record_told(read_flexray_receive(log, at), case, wrong),
         kind::LIN_MESSAGE => record_told(read_lin_message(log, at), case, wrong),
         kind::LIN_WAKE_UP => record_told(read_lin_wake_up(log, at), case, wrong),
+        kind::CAN_MESSAGE_2 => record_told(read_can_message_2(log, at), case, wrong),
+        kind::CAN_FD_MESSAGE => record_told(read_can_fd_message(log, at), case, wrong),
         kind::ETHERNET_STATUS => record_told(read_ethernet_status(log, at), case, wrong),
         kind::ETHERNET_FRAME => record_told(read_ethernet_frame(log, at), case, wrong),
         kind::FORWARDED_FRAME => record_told(read_forwarded_frame(log, at), case, wrong),

@@ -53,8 +53,8 @@ fn at_reply(case: &Case, room: &mut [u8], wrong: Break) -> Reply {
 
 fn record_line(case: &Case, room: &mut [u8], wrong: Break) -> Result<usize, Refusal> {
     match record_in(case.second_number(), &case.first) {
-        Record::CanMessage(mut r) if wrong == Break::Remote && r.flags & 0x80 != 0 => {
-            r.flags &= 0x7F;
+        Record::CanMessage(mut r) if wrong == Break::Remote && r.front.flags & 0x80 != 0 => {
+            r.front.flags &= 0x7F;
             let used = asc::message_line(&r, room)?;
             let line = &mut room[..used];
             let at = line.windows(3).position(|three| three == b" d ");
@@ -107,16 +107,17 @@ fn any_fraction(text: &[u8]) -> Result<asc::Told, Refusal> {
 
 /// What must come.
 #[rustfmt::skip]
-pub const NEEDED: [&str; 57] = [
+pub const NEEDED: [&str; 61] = [
     "1: line of type 1, first header", "1: line of type 1, second header",
     "1: line of type 3, first header", "1: line of type 3, second header",
     "1: line of type 4, first header", "1: line of type 4, second header",
     "1: 0 bytes, another type", "1: 0 bytes, no object", "1: 0 bytes, byte 21",
+    "1: 0 bytes, sound type 86", "1: 0 bytes, sound type 100",
     "1: refused 7", "1: refused 10",
     "2: line of type 1, first header", "2: line of type 1, second header",
     "2: line of type 3, first header", "2: line of type 3, second header",
     "2: line of type 4, first header", "2: line of type 4, second header",
-    "2: 0 bytes", "2: done",
+    "2: 0 bytes", "2: 0 bytes, sound type 86", "2: 0 bytes, sound type 100", "2: done",
     "2: refused 1", "2: refused 2", "2: refused 3", "2: refused 4", "2: refused 5",
     "2: refused 7", "2: refused 8", "2: refused 8, byte 21", "2: refused 10",
     "2: refused 2 behind others", "2: refused 3 behind others", "2: refused 4 behind others",
@@ -148,6 +149,7 @@ pub fn names(case: &Case, told: &Told) -> Vec<String> {
     };
     let others = [
         shown(case, told),
+        can_2_or_fd(case, told),
         behind_others(case, told),
         overload(case, told),
     ];
@@ -168,6 +170,19 @@ fn shown(case: &Case, told: &Told) -> Option<String> {
         _ => return None,
     };
     Some(what.to_string())
+}
+
+/// A sound CAN message 2 or CAN FD message (W-208), which has no line.
+fn can_2_or_fd(case: &Case, told: &Told) -> Option<String> {
+    let (1 | 2, [word::USED, 0, ..]) = (case.question, told.reply) else {
+        return None;
+    };
+    let Answer::Object(o) = step(asked(case), 0) else {
+        return None;
+    };
+    let whole = case.question == 2 || o.next == case.first.len();
+    let sound = whole && [86, 100].contains(&o.kind);
+    sound.then(|| format!("0 bytes, sound type {}", o.kind))
 }
 
 /// A refusal at a position, where other objects stand before it. The place is not the object's start, but for 2.

@@ -83,14 +83,17 @@ fn head(rng: &mut Rng) -> Head {
 
 fn message(rng: &mut Rng, head: Head, channel: u16) -> CanMessage {
     let (flags, dlc, id) = (rng.byte(), rng.byte(), rng.number() as u32);
-    CanMessage {
-        head,
+    let front = CanFront {
         channel,
         flags: rng.pick(&[0, 0, 1, 1, 0x80, 0x81, 0x7E, flags]),
         dlc: rng.pick(&[
             0, 1, 2, 3, 4, 5, 6, 7, 8, 8, 9, 10, 15, 16, 99, 100, 255, dlc,
         ]),
         id: if rng.once_in(2) { rng.pick(&IDS) } else { id },
+    };
+    CanMessage {
+        head,
+        front,
         data: rng.array(),
     }
 }
@@ -208,7 +211,7 @@ fn damage(rng: &mut Rng, object: &mut Vec<u8>, turn: usize) {
         }
         3 => put(object, 8, &any_size(rng).to_le_bytes()),
         4 => {
-            let kind = rng.pick(&[0, 1, 2, 3, 4, 5, 50, 62, 86, 103, 120, 0x0100_0003, any]);
+            let kind = rng.pick(&[0, 1, 2, 3, 4, 5, 50, 86, 100, 103, 120, 0x0100_0003, any]);
             put(object, 12, &kind.to_le_bytes());
         }
         5 => object.truncate(rng.below(length)),
@@ -296,7 +299,7 @@ fn length_at(log: &[u8], position: u64) -> usize {
 fn can_log(rng: &mut Rng, turn: usize) -> Vec<u8> {
     let mut log = Vec::new();
     for _ in 0..rng.from_to(1, 5) {
-        let kind = rng.pick(&[1, 3, 4, 1, 3, 4, 62, 103, 9_999]);
+        let kind = rng.pick(&[1, 3, 4, 1, 3, 4, 62, 86, 100, 103, 9_999]);
         let object = if KINDS.contains(&kind) {
             can_object(rng, kind)
         } else {
@@ -361,10 +364,12 @@ fn second_of(unit: u32, time: u64) -> Head {
 fn message_of(head: Head, channel: u16, flags: u8, dlc: u8, id: u32) -> Record<'static> {
     Record::CanMessage(CanMessage {
         head,
-        channel,
-        flags,
-        dlc,
-        id,
+        front: CanFront {
+            channel,
+            flags,
+            dlc,
+            id,
+        },
         data: [0x09, 0x1A, 0x2B, 0x90, 0xA1, 0xB2, 0xFF, 0x00],
     })
 }

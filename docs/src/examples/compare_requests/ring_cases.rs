@@ -1,7 +1,7 @@
 //! W-206: the cases of questions 5 and 6, by sweeps and at random.
 use super::asc::walked;
 use super::cases::{Case, LIMIT};
-use mshelovat_reference::gen::{self, padded, Rng, DAMAGES, LISTED};
+use mshelovat_reference::gen::{self, padded, Rng, DAMAGES, FRAMES, LISTED};
 use mshelovat_reference::header::{header_length, Header, SHORT_HEADER, SIGNATURE};
 use mshelovat_reference::layout::{put, u32_at, FRAME_LIMIT};
 use mshelovat_reference::object::{step, Answer};
@@ -109,7 +109,7 @@ pub fn sweeps(rng: &mut Rng) -> Vec<Case> {
 fn foreign(rng: &mut Rng, size: usize) -> Vec<u8> {
     let mut object = rng.bytes(size);
     let header_size = rng.from_to(SHORT_HEADER, size) as u16;
-    let kind = rng.pick(&[0u32, 2, 49, 58, 124, 9_999, 0x0100_0003, u32::MAX]);
+    let kind = rng.pick(&[0u32, 2, 49, 58, 85, 101, 124, 9_999, 0x0100_0003, u32::MAX]);
     put(&mut object, 0, &SIGNATURE);
     put(&mut object, 4, &header_size.to_le_bytes());
     put(&mut object, 8, &(size as u32).to_le_bytes());
@@ -235,7 +235,7 @@ fn between(rng: &mut Rng, object: Vec<u8>) -> (Vec<u8>, usize) {
     (log, start)
 }
 
-/// Each of the eleven types under both headers.
+/// Each of the thirteen types under both headers.
 fn sweep_types(rng: &mut Rng, cases: &mut Vec<Case>) {
     for kind in LISTED {
         for header in Header::BOTH {
@@ -247,12 +247,12 @@ fn sweep_types(rng: &mut Rng, cases: &mut Vec<Case>) {
     }
 }
 
-/// The longest objects of the eleven types.
+/// The longest objects of the thirteen types.
 fn sweep_longest(rng: &mut Rng, cases: &mut Vec<Case>) {
     let frame = rng.bytes(FRAME_LIMIT);
-    for kind in &LISTED[7..] {
+    for kind in FRAMES {
         for header in Header::BOTH {
-            let object = raw(&gen::record_under(rng, header, *kind, &frame));
+            let object = raw(&gen::record_under(rng, header, kind, &frame));
             let mut cuts = cuts(rng, &object, None);
             cuts.extend([64, 72, object.len() / 2]);
             let (log, start) = between(rng, object);

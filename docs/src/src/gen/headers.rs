@@ -1,4 +1,4 @@
-//! Headers of the eleven types, sound and wrong.
+//! Headers of the thirteen types, sound and wrong.
 
 use super::Rng;
 use crate::header::{Head, Header, Own};

@@ -6,24 +6,15 @@ use crate::layout::*;
 use crate::object::{has_frame, reserved_bytes, step, Answer};
 use crate::records::write_any;
 
-/// The numbers of the eleven types.
-pub const LISTED: [u32; 11] = [1, 3, 4, 50, 57, 62, 103, 120, 121, 122, 123];
+/// The numbers of the thirteen types.
+pub const LISTED: [u32; 13] = [1, 3, 4, 50, 57, 62, 86, 100, 103, 120, 121, 122, 123];
+/// Those that carry a frame.
+pub const FRAMES: [u32; 4] = [120, 121, 122, 123];
 /// Foreign type numbers that are neighbours of listed ones, or far off.
-const FOREIGN: [u32; 14] = [
-    0,
-    2,
-    5,
-    49,
-    51,
-    58,
-    61,
-    102,
-    104,
-    119,
-    124,
-    9_999,
-    0x0100_0001,
-    u32::MAX,
+#[rustfmt::skip]
+const FOREIGN: [u32; 20] = [
+    0, 2, 5, 49, 51, 58, 61, 85, 87, 99, 101, 102, 104, 119, 124, 0x0156, 0x0164, 9_999,
+    0x0100_0001, u32::MAX,
 ];
 
 /// A sound object of a type, without padding, under either header. Any type not
@@ -70,6 +61,23 @@ fn foreign_of(rng: &mut Rng, kind: u32) -> Vec<u8> {
     put(&mut bytes, 8, &(size as u32).to_le_bytes());
     put(&mut bytes, 12, &kind.to_le_bytes());
     bytes
+}
+
+/// A copy of an object of type 86 or 100, without padding, from when that type
+/// was foreign: a sound one, one with four bytes less, as python-can writes type
+/// 100, or any bytes that passed then.
+pub fn old_foreign(rng: &mut Rng, kind: u32) -> Vec<u8> {
+    let mut copy = object(rng, kind);
+    match rng.below(3) {
+        0 => foreign_of(rng, kind),
+        1 => copy,
+        _ => {
+            let size = copy.len() - 4;
+            copy.truncate(size);
+            put_size(&mut copy, size as u32);
+            copy
+        }
+    }
 }
 
 /// An object with its padding behind it.
@@ -156,6 +164,8 @@ pub enum Damage {
     DataCount,
     /// An f64 that breaks its rule.
     ExactRate,
+    /// Valid bytes above 64.
+    ValidBytes,
     /// Another type number on the same bytes.
     Kind,
     /// Any byte of an object or its padding is changed.
@@ -168,15 +178,15 @@ pub enum Damage {
 
 /// Every way to damage a log.
 #[rustfmt::skip]
-pub const DAMAGES: [Damage; 29] = [
+pub const DAMAGES: [Damage; 30] = [
     Damage::Signature, Damage::SmallSize, Damage::WrongSize, Damage::TopSize,
     Damage::WrapSize, Damage::HeaderSize, Damage::HeaderVersion, Damage::HeaderPair,
     Damage::PairAndSize, Damage::OtherPair, Damage::OtherSize, Damage::HeaderReserved,
     Damage::HeaderCut, Damage::Padding, Damage::TwoPadding, Damage::OldPadding,
     Damage::Unit, Damage::Reserved, Damage::TwoReserved, Damage::StructureLength,
     Damage::FrameLength, Damage::OtherLength, Damage::BothLengths, Damage::DataCount,
-    Damage::ExactRate, Damage::Kind, Damage::AnyByte, Damage::CutShort,
-    Damage::LooseEnd,
+    Damage::ExactRate, Damage::ValidBytes, Damage::Kind, Damage::AnyByte,
+    Damage::CutShort, Damage::LooseEnd,
 ];
 
 impl Damage {
@@ -197,7 +207,8 @@ impl Damage {
             Damage::Unit => &[7],
             Damage::Reserved | Damage::TwoReserved | Damage::HeaderReserved => &[8],
             Damage::StructureLength | Damage::FrameLength | Damage::OtherLength => &[9],
-            Damage::BothLengths | Damage::DataCount | Damage::ExactRate => &[9],
+            Damage::BothLengths | Damage::DataCount => &[9],
+            Damage::ExactRate | Damage::ValidBytes => &[9],
             Damage::LooseEnd => &[1],
             Damage::Kind | Damage::AnyByte | Damage::CutShort => &[],
         }
@@ -210,17 +221,18 @@ impl Damage {
         match self {
             Damage::WrapSize => foreign,
             _ if self.asks_listed() => listed,
-            Damage::Reserved | Damage::TwoReserved => rng.pick(&[3, 50, 57, 62, 120, 121]),
-            _ if self.asks_frame() => rng.pick(&LISTED[7..]),
+            Damage::Reserved | Damage::TwoReserved => rng.pick(&[3, 50, 57, 62, 86, 100, 120, 121]),
+            _ if self.asks_frame() => rng.pick(&FRAMES),
             Damage::DataCount => 50,
             Damage::ExactRate => 57,
+            Damage::ValidBytes => 100,
             Damage::Padding | Damage::TwoPadding => rng.pick(&[50, 120, 121, 122, 123, foreign]),
             Damage::OldPadding => rng.pick(&[120, 121, 122, 123, foreign, foreign]),
             _ => rng.pick(&[listed, listed, listed, foreign]),
         }
     }
 
-    /// Can it befall every one of the eleven types, and no foreign one?
+    /// Can it befall every one of the thirteen types, and no foreign one?
     fn asks_listed(self) -> bool {
         matches!(
             self,
@@ -272,6 +284,7 @@ impl Damage {
             _ if self.asks_frame() => has_frame(was.kind),
             Damage::DataCount => was.kind == kind::FLEXRAY_RECEIVE,
             Damage::ExactRate => was.kind == kind::LIN_MESSAGE && body(object).len() == 152,
+            Damage::ValidBytes => was.kind == kind::CAN_FD_MESSAGE,
             _ => true,
         }
     }
@@ -339,6 +352,14 @@ impl Damage {
                 let reserved: Vec<usize> = reserved_bytes(was.header, was.row()).collect();
                 set_two(rng, piece, &reserved)
             }
+            _ => self.befall_content(rng, piece, was),
+        }
+    }
+
+    /// The same for damages of what 9 looks at.
+    fn befall_content(self, rng: &mut Rng, piece: &mut [u8], was: &Sound) -> usize {
+        let body = was.header.length();
+        match self {
             Damage::StructureLength => set_other(rng, piece, body),
             Damage::FrameLength => set_other(rng, piece, body + 22),
             Damage::OtherLength => {
@@ -355,7 +376,8 @@ impl Damage {
                 body + 24
             }
             Damage::ExactRate => set(piece, body + 136, &wrong_rate(rng).to_le_bytes()),
-            _ => panic!("{self:?} is no damage of the body"),
+            Damage::ValidBytes => set(piece, body + 14, &[too_many_valid(rng)]),
+            _ => panic!("{self:?} is no damage of the content"),
         }
     }
 
@@ -381,7 +403,7 @@ impl Damage {
 struct Sound {
     /// Its first byte in the log.
     start: usize,
-    /// Its header, where it is of the eleven types.
+    /// Its header, where it is of the thirteen types.
     header: Header,
     /// Its size without the padding.
     size: u32,
@@ -400,7 +422,7 @@ impl Sound {
         }
     }
 
-    /// The row of its type, which is one of the eleven.
+    /// The row of its type, which is one of the thirteen.
     fn row(&self) -> &'static Row {
         row(self.kind).expect("a listed type")
     }
@@ -453,6 +475,13 @@ fn other(rng: &mut Rng, value: u16) -> u16 {
     }
 }
 
+/// Lengths of bodies that some types have, or nearly have; 84 is that of type 100
+/// as python-can writes it.
+#[rustfmt::skip]
+const NEAR_LENGTHS: [usize; 16] = [
+    31, 1_645, 4, 16, 20, 28, 132, 136, 152, 298, 300, 8, 12, 24, 84, 88,
+];
+
 fn wrong_size(rng: &mut Rng, was: &Sound) -> u32 {
     let bodies = was.row().bodies;
     loop {
@@ -460,7 +489,7 @@ fn wrong_size(rng: &mut Rng, was: &Sound) -> u32 {
             0 => was.size.wrapping_add(rng.from_to(1, 8) as u32),
             1 => was.size.wrapping_sub(rng.from_to(1, 8) as u32),
             2 => {
-                let length = rng.pick(&[31, 1_645, 4, 16, 20, 28, 132, 136, 152, 298, 300]);
+                let length = rng.pick(&NEAR_LENGTHS);
                 (was.header.length() + length) as u32
             }
             3 => rng.from_to(16, 1_700) as u32,
@@ -513,6 +542,11 @@ fn wrong_rate(rng: &mut Rng) -> u64 {
             u64::MAX,
         ]),
     }
+}
+
+fn too_many_valid(rng: &mut Rng) -> u8 {
+    let any = rng.from_to(CAN_FD_DATA + 1, 255) as u8;
+    rng.pick(&[65, 128, 255, any])
 }
 
 fn break_counts(rng: &mut Rng, body: &mut [u8]) {

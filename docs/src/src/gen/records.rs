@@ -3,7 +3,7 @@
 use super::headers::{first as head, second_own, wrong_pair};
 use super::Rng;
 use crate::header::STATUS_GAP;
-use crate::layout::{kind, put, row, FLEXRAY_DATA, FRAME_LIMIT};
+use crate::layout::{kind, put, row, CAN_FD_DATA, FLEXRAY_DATA, FRAME_LIMIT};
 use crate::object::has_frame;
 use crate::records::*;
 
@@ -18,7 +18,7 @@ pub fn frame(rng: &mut Rng) -> Vec<u8> {
     rng.bytes(length)
 }
 
-/// A valid record of one of the eleven types, with fields of every value, under
+/// A valid record of one of the thirteen types, with fields of every value, under
 /// either header. `frame` is lent to types 120 to 123 and must not be above
 /// 1,612 bytes.
 pub fn record<'a>(rng: &mut Rng, kind: u32, frame: &'a [u8]) -> Record<'a> {
@@ -43,6 +43,8 @@ fn first_record<'a>(rng: &mut Rng, kind: u32, frame: &'a [u8]) -> Record<'a> {
         kind::FLEXRAY_RECEIVE => Record::FlexRayReceive(flexray_receive(rng)),
         kind::LIN_MESSAGE => Record::LinMessage(lin_message(rng)),
         kind::LIN_WAKE_UP => Record::LinWakeUp(lin_wake_up(rng)),
+        kind::CAN_MESSAGE_2 => Record::CanMessage2(can_message_2(rng)),
+        kind::CAN_FD_MESSAGE => Record::CanFdMessage(can_fd_message(rng)),
         kind::ETHERNET_STATUS => Record::EthernetStatus(ethernet_status(rng)),
         kind::ETHERNET_FRAME => Record::EthernetFrame(ethernet_frame(rng, frame)),
         kind::FORWARDED_FRAME => Record::ForwardedFrame(ethernet_frame(rng, frame)),
@@ -115,6 +117,8 @@ fn head_of<'r>(record: &'r mut Record) -> &'r mut Head {
         Record::FlexRayReceive(r) => &mut r.head,
         Record::LinMessage(r) => &mut r.head,
         Record::LinWakeUp(r) => &mut r.head,
+        Record::CanMessage2(r) => &mut r.message.head,
+        Record::CanFdMessage(r) => &mut r.head,
         Record::EthernetStatus(r) => &mut r.head,
         Record::EthernetFrame(r) | Record::ForwardedFrame(r) => &mut r.head,
         Record::EthernetError(r) | Record::ForwardedError(r) => &mut r.event.head,
@@ -140,6 +144,10 @@ fn spoil_content(rng: &mut Rng, record: &mut Record) {
             {
                 *exact_header_rate = edge_rate(rng);
             }
+        }
+        Record::CanFdMessage(r) => {
+            let any = rng.byte();
+            r.valid_bytes = rng.pick(&[0, 63, 64, 65, 66, 128, 255, any]);
         }
         _ => {}
     }
@@ -172,13 +180,19 @@ fn sound_rate(rng: &mut Rng) -> u64 {
     }
 }
 
-fn can_message(rng: &mut Rng) -> CanMessage {
-    CanMessage {
-        head: head(rng),
+fn can_front(rng: &mut Rng) -> CanFront {
+    CanFront {
         channel: rng.number() as u16,
         flags: rng.byte(),
         dlc: rng.byte(),
         id: rng.number() as u32,
+    }
+}
+
+fn can_message(rng: &mut Rng) -> CanMessage {
+    CanMessage {
+        head: head(rng),
+        front: can_front(rng),
         data: rng.array(),
     }
 }
@@ -201,6 +215,28 @@ fn can_statistic(rng: &mut Rng) -> CanStatistic {
         extended_remote: rng.number() as u32,
         error: rng.number() as u32,
         overload: rng.number() as u32,
+    }
+}
+
+fn can_message_2(rng: &mut Rng) -> CanMessage2 {
+    CanMessage2 {
+        message: can_message(rng),
+        frame_length: rng.number() as u32,
+        bit_count: rng.byte(),
+    }
+}
+
+/// The data behind the valid bytes is anything, and so is the DLC.
+fn can_fd_message(rng: &mut Rng) -> CanFdMessage {
+    let any = rng.below(CAN_FD_DATA + 1) as u8;
+    CanFdMessage {
+        head: head(rng),
+        front: can_front(rng),
+        frame_length: rng.number() as u32,
+        arbitration_bit_count: rng.byte(),
+        fd_flags: rng.byte(),
+        valid_bytes: rng.pick(&[0, CAN_FD_DATA as u8, any, any]),
+        data: rng.array(),
     }
 }
 

@@ -5,13 +5,15 @@ use mshelovat_reference::layout::{occupied, Refusal};
 use mshelovat_reference::programs::{desk, lister};
 
 /// The types whose sizes do not depend on a frame, with these sizes.
-pub const SIZES: [(u32, &[u32]); 7] = [
+pub const SIZES: [(u32, &[u32]); 9] = [
     (1, &[48]),
     (3, &[36]),
     (4, &[60]),
     (50, &[330]),
     (57, &[164, 168, 184]),
     (62, &[52]),
+    (86, &[56]),
+    (100, &[120]),
     (103, &[48]),
 ];
 
