@@ -1,5 +1,5 @@
--- `can_records::write_message_two` meets its contract: refused, or header, body and padding; what is not refused is valid.
--- Assumes nothing.
+-- `can_records::write_message_two` meets its contract: refused, or header, body and padding; what is not refused
+-- is valid. Assumes nothing.
 use mathlib.Core.Path.{refl, sym}
 use native.Mathlib.Omega.{arith}
 use borrow.Author.Needs.{needs}
