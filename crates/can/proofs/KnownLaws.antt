@@ -2,12 +2,12 @@
 -- it, is that its fields fit. Assumes nothing.
 use mathlib.Core.Path.{_≡_, refl}
 use mathlib.Core.Bool.{true}
-use mathlib.Core.List.{[], _∷_}
+use mathlib.Core.List.{List, [], _∷_}
 use Prim.Native.Nat.{ℕ, _<_, _^_}
 use lib.Dec.{leb}
 use lib.ListN.{getD}
 use mir.Syntax.{w8}
-use mir.Val.{Fits}
+use mir.Val.{Val, Fits}
 use denote.Laws.{Is}
 use denote.Struct.Declared as struct
 use denote.Struct.Laws.{val}
@@ -33,13 +33,17 @@ use Rattle.can.specs.declared.fd_message.FdMessage.{FdMessage}
 use Rattle.can.proofs.fd_message.FdMessage as fd-message
 use Rattle.can.proofs.fd_message.FdMessage.Laws as fd-message-laws
 
-pub message-known : (r : Message) → Is (struct.row message.the-type) r (val message.the-type message-laws.the-laws r ∷ []) → unitOk (r .header .unit) ≡ true → Valid messageFormat messageForm r
+-- a message, by itself or in a message 2
+message-valid : (r : Message) (vs : List Val) → Is (struct.row message.the-type) r vs → unitOk (r .header .unit) ≡ true → Valid messageFormat messageForm r
 unfolding messageSlots
-message-known r g u =
+message-valid r vs g u =
     let byte : (i : ℕ) → Fits w8 (getD (r .bytes) i 0) = λ i. search (needs, g .1 .1 .1 .1 .1 .1 .1 .0) in
     let bytes : (i : ℕ) → i < 8 → getD (r .bytes) i 0 < 256 ^ 1 = λ i l. byte i .fits in
     let h = header-known (r .header) _ (g .1 .1 .0) in
     search (needs, g, u, h, bytes)
+
+pub message-known : (r : Message) → Is (struct.row message.the-type) r (val message.the-type message-laws.the-laws r ∷ []) → unitOk (r .header .unit) ≡ true → Valid messageFormat messageForm r
+message-known r g u = message-valid r _ g u
 
 pub overload-known : (r : Overload) → Is (struct.row overload.the-type) r (val overload.the-type overload-laws.the-laws r ∷ []) → unitOk (r .header .unit) ≡ true → Valid overloadFormat overloadForm r
 unfolding overloadSlots
@@ -50,15 +54,14 @@ unfolding statisticSlots counterSlots
 statistic-known r g u = let h = header-known (r .header) _ (g .1 .1 .0) in search (needs, g, u, h)
 
 pub message-two-known : (r : MessageTwo) → Is (struct.row message-two.the-type) r (val message-two.the-type message-two-laws.the-laws r ∷ []) → unitOk (r .message .header .unit) ≡ true → Valid messageTwoFormat messageTwoForm r
-unfolding messageTwoSlots
+unfolding messageSlots messageTwoSlots
 message-two-known r g u =
-    let m = g .1 .1 .0 in
-    let byte : (i : ℕ) → Fits w8 (getD (r .message .bytes) i 0) = λ i. search (needs, m .1 .1 .1 .1 .1 .1 .1 .0) in
-    let bytes : (i : ℕ) → i < 8 → getD (r .message .bytes) i 0 < 256 ^ 1 = λ i l. byte i .fits in
+    let m = message-valid (r .message) _ (g .1 .1 .0) u in
+    let f = m .fits in
     record {
-      header = header-known (r .message .header) _ (m .1 .1 .0);
+      header = m .header;
       unit = u;
-      fits = (search (needs, m), (search (needs, m), (search (needs, m), (search (needs, m), ((search (needs, m), bytes), (search (needs, g), (search (needs, g), (tt, tt))))))));
+      fits = (f .0, (f .1 .0, (f .1 .1 .0, (f .1 .1 .1 .0, (f .1 .1 .1 .1 .0, (search (needs, g), (search (needs, g), (tt, tt))))))));
       extra = tt;
       content = refl;
     }
