@@ -1,4 +1,5 @@
 // ASC lines of CAN events: what a line tells, the line of what is told, and a text read as a line.
+#![tactic(auto)]
 mod reading;
 mod told;
 mod writing;

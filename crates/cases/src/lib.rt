@@ -1,4 +1,5 @@
 // Cases, and what the proved library answers to each: for the comparison with the plain Rust reader of docs/src.
+#![tactic(auto)]
 mod replies;
 mod writing;
 

@@ -1,4 +1,5 @@
 // Reads the files `log` and `bundle` of its folder and prints the verdict on them.
+#![tactic(auto)]
 fn main() {
     let mut log = input::buffer();
     let mut bundle = input::buffer();

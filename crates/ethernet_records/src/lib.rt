@@ -1,4 +1,5 @@
 // The Ethernet records of document 003, read out of a log and written into a buffer.
+#![tactic(auto)]
 mod frame;
 mod frame_error;
 mod status;

@@ -1,6 +1,7 @@
 // Runs document 01's examples of reading and writing that are not marked, and those of W-202, W-204 to W-206 and
 // W-208, over the proved calls, and prints what came out: a line an example. Those of slips, frames and foreign objects
 // stand in `slip_examples`.
+#![tactic(auto)]
 mod can_fd;
 mod left_over;
 mod reading;

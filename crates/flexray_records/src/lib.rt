@@ -1,4 +1,5 @@
 // The FlexRay record of document 002, read out of a log and written into a buffer.
+#![tactic(auto)]
 mod receive;
 
 pub use receive::{ReceiveRead, read_receive, receive_in, write_receive};

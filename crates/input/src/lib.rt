@@ -1,4 +1,5 @@
 // Reading an input to its end.
+#![tactic(auto)]
 ghost use Rattle.input.specs.Zeros.{Zeros};
 ghost use Rattle.input.specs.Taken.{Taken, TakenFile};
 

@@ -1,4 +1,5 @@
 // Reads a log from standard input and prints its objects.
+#![tactic(auto)]
 fn main() {
     let mut input = input::buffer();
     let got = input::read_all(libc::STDIN_FILENO, &mut input);

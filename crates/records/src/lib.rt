@@ -1,4 +1,5 @@
 // An object's bytes written as its record, foreign objects written, and a log read and written again.
+#![tactic(auto)]
 mod foreign;
 mod object;
 mod whole_log;

@@ -1,5 +1,6 @@
 // Runs document 01's examples of slips, and of writing frames and foreign objects, and W-207's of trays, and prints what
 // came out: a line an example.
+#![tactic(auto)]
 mod samples;
 mod slip;
 mod tell;

@@ -30,7 +30,7 @@ get64-requires-2 c κs = omega (arith, c.before.loop-test.true, c.before.before.
 returns-2 : tie.Need-returns-2 invariant-loop decreases-loop
 returns-2 c = alike_not _ _ c.before.before.before.before.loop.i (λ e. c.if2.true (c.before.before.get64.ensures ∙ e ∙ sym c.before.get642.ensures))
 
-add-i : tie.Need-overflow-add-i invariant-loop decreases-loop
+add-i : tie.Need-overflow_add-i invariant-loop decreases-loop
 add-i c = search rules
 
 loop-less : tie.Need-loop-smaller invariant-loop decreases-loop
