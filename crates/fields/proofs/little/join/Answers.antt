@@ -6,13 +6,9 @@ use native.Mathlib.Omega.{arith}
 use lib.Dec.{lit≤}
 use lib.Bits.{bit_or, or_shifted}
 use lib.Pow.{shl_exact}
-use Rattle.fields.proofs.little.join.Statement.{statement}
-use Rattle.fields.proofs.little.join.Tie as tie
+use Rattle.fields.proofs.little.join.Goals as goal
 
-returns : tie.Need-returns
+pub returns : goal.returns
 returns c =
     let a = c.args in
     ap (λ (k : ℕ). bit_or k a.low) (shl_exact {a = a.high} 32 32 64 (omega arith) (lit≤ tt)) ∙ or_shifted a.high 32 a.low (omega arith) ∙ omega arith
-
-pub join_spec : {M : Type 1} → statement M
-join_spec = tie.close (tie.spec returns)
