@@ -71,30 +71,71 @@ class Function:
         self.needs = {}
         for old, new in names["needs"]:
             self.needs.setdefault(alike(old), new)
+            self.needs.setdefault(alike("overflow" + old), new)
+            self.needs.setdefault(alike(re.sub("^part-", "slice-bounds-", old)), new)
         for old, new in names["needs"]:
             self.needs.setdefault(alike(new), new)
+        self.places = {new: at[0] for (old, new), at in zip(names["needs"], names["asked_at"])}
         self.loops = [(l[0][0], l[0][1], l[1], ch) for l, ch in zip(names["loops"], names["changed"])]
         self.news = {new for place in names["places"] for new in [place[2][1]]}
+
+    def at(self, place):
+        """What the steps are called at a place, and what an arm's facts are called there."""
+        at = {p[0]: k for k, p in enumerate(self.names["places"])}
+        if place not in at:
+            new = self.names.get("places_by_name", [])
+            if place not in new:
+                return self.labels, []
+            k = new.index(place)
+        else:
+            k = at[place]
+        labels, paths = {}, []
+        while True:
+            old, new = self.names["places"][k][2]
+            arm = self.names["arms"][k] if k < len(self.names["arms"]) else None
+            if arm:
+                for field, label, path in arm[2]:
+                    paths.append((".".join([label] + path), f"{arm[0]}.{field}"))
+            if k < len(self.names["typed"]):
+                for variable, label in self.names["typed"][k]:
+                    paths.append((label + ".given", "type_inv." + variable))
+            if old:
+                labels.setdefault(old, new)
+                labels.setdefault(alike(old), new)
+            parent = self.names["places"][k][1]
+            if parent is None or parent not in at:
+                break
+            k = at[parent]
+        for old, new in self.labels.items():
+            labels.setdefault(old, new)
+        return labels, paths
 
     def say(self, text):
         self.said.append(f"{self.folder}: {text}")
 
-    def body(self, text):
+    def body(self, text, place=None):
         """Steps stand side by side now, under their new names."""
+        labels, paths = self.at(place) if place else (self.labels, [])
         text = re.sub(r"(?:\.before)+(?![\w'-])", "", text)
         text = re.sub(r"\.args\.(" + W + ")", lambda m: self.arg(m.group(0), m.group(1), ".args"), text)
         text = re.sub(r"\.ranges\.(" + W + ")", lambda m: self.arg(m.group(0), m.group(1), ".ranges"), text)
 
+        done = set()
+        for old, new in sorted(paths, key=lambda it: -len(it[0])):
+            if old in done:
+                continue
+            done.add(old)
+            text = re.sub(r"(?<![\w₀-₉'.-])(" + W + r")\." + re.escape(old).replace("_", "[-_]") + r"(?![\w₀-₉'-])", lambda m: m.group(1) + ".@" + new, text)
         args = set(re.findall(r"\blet (" + W + r") = [\w.-]+\.args in", text))
 
         def label(m):
             name = m.group(2) if m.re.groups > 1 else m.group(1)
             if m.group(1) in args:
                 return "." + name
-            if name in self.labels:
-                return "." + self.labels[name]
-            if name not in self.news and alike(name) in self.labels and re.search(r"\d|-|_", name):
-                return "." + self.labels[alike(name)]
+            if name in labels:
+                return "." + labels[name]
+            if name not in self.news and alike(name) in labels and re.search(r"\d|-|_", name):
+                return "." + labels[alike(name)]
             return "." + name
 
         # only the first field of a variable is a step; what follows keeps its name
@@ -106,6 +147,9 @@ class Function:
                 lambda f: m.group(1) + self.arg("." + f.group(1), f.group(1), ".args").replace(".args", ""),
                 text,
             )
+        text = text.replace(".@", ".")
+        # a test that was turned round says what the call returned
+        text = re.sub(r"\(?not-(?:true|false) _ (\w+\.if-not-[\w-]+\.(?:true|false))\)?", lambda m: m.group(1) if m.group(0).count("(") == m.group(0).count(")") else m.group(0).replace("not-true _ ", "").replace("not-false _ ", ""), text)
         # a name for an earlier step is a name for all of them
         while True:
             m = re.search(r"\blet (" + W + r") = c in\s+", text)
@@ -233,7 +277,8 @@ class Function:
                     else:
                         self.say(f"unnamed answer {k} of {len(skip)} (there are {len(olds)} goals): {a[:160]}")
         for name, p in kept:
-            p = self.body(p)
+            helper = re.search(r"tie\.((?:Else|Then|After|At|In|Past)\S*?)[\s)]", p)
+            p = self.body(p, self.places.get(names[name]) if name else helper.group(1) if helper else None)
             if name:
                 new = names[name]
                 p = re.sub(r"^(?:pub )?" + re.escape(name) + r" : tie\.Need-\S+( invariant-\S+| decreases-\S+)*", lambda m: f"pub {new} : goal.{new}", p, flags=re.M)
@@ -245,7 +290,7 @@ class Function:
         for new, b in inline:
             q = re.match(r"λ (.*?)\. (.*)$", b, re.S)
             var = q.group(1).split()[0]
-            answers.append(self.body(f"pub {new} : goal.{new}\n{new} {var} = {q.group(2)}"))
+            answers.append(self.body(f"pub {new} : goal.{new}\n{new} {var} = {q.group(2)}", self.places.get(new)))
         out = "\n\n".join(answers)
         if "tie." in out:
             self.say("`tie` is still cited")

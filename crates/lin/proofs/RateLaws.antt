@@ -1,7 +1,7 @@
 -- The exact rate and its bits: a rate is finite with its sign bit clear exactly where its bits are below infinity's.
 -- Assumes nothing.
 use mathlib.Core.Path.{◌≡◌, refl, sym, ap, ◌∙◌, subst}
-use mathlib.Core.Bool.{Bool, true, false, not, cond, ◌&&◌, and_false}
+use mathlib.Core.Bool.{Bool, true, false, not, cond, ◌&&◌, and-false}
 use Prim.Native.Nat.{ℕ, zero, suc, ◌+◌, ◌/◌, ◌%◌, ◌≤◌, ◌<◌}
 use native.Mathlib.Omega.{arith}
 use lib.Dec.{T, ltb, leb, eqb}
@@ -43,7 +43,7 @@ rate_bits n = pick (ltb n infinity) (leb (top binary64) n) refl refl ∙ sym (ra
     pick : (a b : Bool) → ltb n infinity ≡ a → leb (top binary64) n ≡ b → a ≡ (not (eqb (exponent n) (ones binary64)) && not b)
     pick true true p q = absurd (omega (arith, ltb-true n infinity p, leb-true (top binary64) n q))
     pick true false p q = let l : n < infinity = ltb-true n infinity p in rw (ne_eqb (exponent n) (ones binary64) (λ e. omega arith))
-    pick false true p q = sym (and_false (not (eqb (exponent n) (ones binary64))))
+    pick false true p q = sym (and-false (not (eqb (exponent n) (ones binary64))))
     pick false false p q =
         let k : infinity ≤ n = ltb-false n infinity p in
         let l : n < top binary64 = leb-false (top binary64) n q in

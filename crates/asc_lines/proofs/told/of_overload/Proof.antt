@@ -6,7 +6,7 @@ use Rattle.asc_lines.proofs.told.of_overload.Tie as tie
 
 returns : tie.Need-returns
 unfolding of_overload
-returns c = λ i. record { kind = 3; head = c.before.before.args.head; frame = c.before.no_frame_at.ensures i; counts = c.no-counts.ensures i }
+returns c = λ i. record { kind = 3; head = c.before.before.args.head; frame = c.before.no_frame.ensures i; counts = c.no-counts.ensures i }
 
 pub of_overload_spec : {M : Type 1} → statement M
 of_overload_spec =

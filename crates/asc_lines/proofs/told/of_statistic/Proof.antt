@@ -6,7 +6,7 @@ use Rattle.asc_lines.proofs.told.of_statistic.Tie as tie
 
 returns : tie.Need-returns
 unfolding of_statistic
-returns c = λ i. record { kind = 4; head = c.before.args.head; frame = c.no_frame_at.ensures i; counts = c.before.args.counts }
+returns c = λ i. record { kind = 4; head = c.before.args.head; frame = c.no_frame.ensures i; counts = c.before.args.counts }
 
 pub of_statistic_spec : {M : Type 1} → statement M
 of_statistic_spec =

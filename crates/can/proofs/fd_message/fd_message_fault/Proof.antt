@@ -20,7 +20,7 @@ returns c =
     let p6 = p5.before in
     let b = p6.before.before.args.b.now in
     let after-data : p5.all-zero2.result ≡ all_zero (part 4 b 84) = p5.all-zero2.ensures in
-    c.first3.ensures ∙ ap₂ (first 8) p6.all_zeros.ensures
+    c.first3.ensures ∙ ap₂ (first 8) p6.all_zero.ensures
     (p1.first2.ensures ∙ ap₂ (first 8) after-data
     (p2.first.ensures ∙ ap₂ (first 9) (p3.valid-ok.ensures ∙ ap (λ (n : ℕ). leb n most_valid) p4.get8.ensures) refl))
     ∙ in_turn_is fd_message_format _

@@ -9,7 +9,7 @@ use Rattle.can.proofs.message_two.message_two_fault.Statement.{statement}
 use Rattle.can.proofs.message_two.message_two_fault.Tie as tie
 
 returns : tie.Need-returns
-returns c = c.first.ensures ∙ ap (λ (ok : Bool). first 8 ok 0) c.before.all_zeros.ensures ∙ in_turn_is message_two_format _
+returns c = c.first.ensures ∙ ap (λ (ok : Bool). first 8 ok 0) c.before.all_zero.ensures ∙ in_turn_is message_two_format _
 
 pub message_two_fault_spec : {M : Type 1} → statement M
 message_two_fault_spec = tie.close (tie.spec (λ c κs. search rules) (λ c κs. search rules) returns)

@@ -9,7 +9,7 @@ use Rattle.can.proofs.overload.overload_fault.Statement.{statement}
 use Rattle.can.proofs.overload.overload_fault.Tie as tie
 
 returns : tie.Need-returns
-returns c = c.first.ensures ∙ ap (λ (ok : Bool). first 8 ok 0) c.before.all_zeros.ensures ∙ in_turn_is overload_format _
+returns c = c.first.ensures ∙ ap (λ (ok : Bool). first 8 ok 0) c.before.all_zero.ensures ∙ in_turn_is overload_format _
 
 pub overload_fault_spec : {M : Type 1} → statement M
 overload_fault_spec = tie.close (tie.spec (λ c κs. search rules) (λ c κs. search rules) returns)

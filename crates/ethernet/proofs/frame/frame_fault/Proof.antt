@@ -9,7 +9,7 @@ use Rattle.ethernet.proofs.frame.frame_fault.Tie as tie
 
 returns : tie.Need-returns
 unfolding body_fault
-returns c = c.first.ensures ∙ ap₂ (first 8) (c.before.before.all_zeros.ensures ∙ sym (and-true _)) c.before.length-fault.ensures
+returns c = c.first.ensures ∙ ap₂ (first 8) (c.before.before.all_zero.ensures ∙ sym (and-true _)) c.before.length-fault.ensures
 
 pub frame_fault_spec : {M : Type 1} → statement M
 frame_fault_spec = tie.close (tie.spec (λ c κs. search rules) (λ c κs. search rules) (λ c κs. search rules) returns)

@@ -21,7 +21,7 @@ returns c =
     let p9 = p8.before in
     let b = p9.before.before.args.b.now in
     let counts : p4.counts-ok.result ≡ counts_ok (num 2 b 22) (num 2 b 24) = p4.counts-ok.ensures ∙ ap₂ counts_ok p6.get16.ensures p5.get162.ensures in
-    c.first4.ensures ∙ ap₂ (first 8) p9.all_zeros.ensures
+    c.first4.ensures ∙ ap₂ (first 8) p9.all_zero.ensures
     (p1.first3.ensures ∙ ap₂ (first 8) p8.all-zero2.ensures
     (p2.first2.ensures ∙ ap₂ (first 8) p7.all-zero3.ensures
     (p3.first.ensures ∙ ap₂ (first 9) counts refl)))

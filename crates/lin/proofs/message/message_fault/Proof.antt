@@ -15,7 +15,7 @@ returns c =
     let ending = rates.before in
     let late = ending.before in
     let early = late.before in
-    c.first3.ensures ∙ ap₂ (first 8) early.all_zeros.ensures
+    c.first3.ensures ∙ ap₂ (first 8) early.all_zero.ensures
     (late-on.first2.ensures ∙ ap₂ (first 8) late.all-zero2.ensures
     (last.first.ensures ∙ ap₂ (first 9) (rates.tail-ok.ensures ∙ ap tail_ok ending.get-tail.ensures) refl)) ∙ in_turn_is message_format _
 

@@ -12,7 +12,7 @@ returns c =
     let last = c.before in
     let late = last.before in
     let early = late.before in
-    c.first2.ensures ∙ ap₂ (first 8) early.all_zeros.ensures
+    c.first2.ensures ∙ ap₂ (first 8) early.all_zero.ensures
     (last.first.ensures ∙ ap₂ (first 8) late.all-zero2.ensures refl) ∙ in_turn_is wake_up_format _
 
 pub wake_up_fault_spec : {M : Type 1} → statement M

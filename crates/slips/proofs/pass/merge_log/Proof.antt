@@ -31,7 +31,7 @@ returns-2 : tie.Need-returns-2 invariant-loop decreases-loop
 returns-2 c =
     let st = c.before.before.before.before in
     let e = ap (λ (x : Step). x.answer) (sym st.step.ensures) ∙ left _ c.before.match2.keys2 c.before.before.match.keys2 in
-    c.is_at_end.ensures ∙ merging.merge_end _ _ _ _ _ _ st.before.loop.invariant e
+    c.at_end.ensures ∙ merging.merge_end _ _ _ _ _ _ st.before.loop.invariant e
 
 advance-requires : tie.Need-advance-requires invariant-loop decreases-loop
 advance-requires c κs = c.before.before.before.before.before.loop.invariant.placed
