@@ -155,7 +155,7 @@ class Function:
             m = re.search(r"\blet (" + W + r") = c in\s+", text)
             if not m:
                 break
-            text = text[: m.start()] + re.sub(r"(?<![\w₀-₉'.-])" + re.escape(m.group(1)) + r"(?![\w₀-₉'-])", "c", text[m.end() :])
+            text = text[: m.start()] + re.sub(r"(?<![\w₀-₉'.-])" + re.escape(m.group(1)) + r"(?![\w₀-₉'-])(?! = )", "c", text[m.end() :])
         # only the first step after a variable is a label; what follows keeps its name
         return text
 
