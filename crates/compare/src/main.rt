@@ -9,6 +9,6 @@ mod reading;
 mod sheet;
 mod stream;
 
-fn main() {
-    stream::serve(libc::STDIN_FILENO, libc::STDOUT_FILENO, 1000000);
+fn main(rt: HostRuntime) {
+    stream::serve(&mut rt.stdin(), &rt, 1000000);
 }

@@ -7,6 +7,6 @@ mod stream;
 mod told;
 mod trays;
 
-fn main() {
-    stream::serve(libc::STDIN_FILENO, libc::STDOUT_FILENO, 1000000);
+fn main(rt: HostRuntime) {
+    stream::serve(&mut rt.stdin(), &rt, 1000000);
 }

@@ -1,7 +1,6 @@
 // Reads the files `log` and `bundle` of its folder and prints the verdict on them.
 #![tactic(auto)]
 use std::io;
-use std::io::Write;
 
 fn main(rt: HostRuntime) -> io::Result<()> {
     let mut log = input::buffer();
@@ -10,5 +9,5 @@ fn main(rt: HostRuntime) -> io::Result<()> {
     let second = input::read_file(&rt, "bundle", &mut bundle);
     let mut line = [0u8; 64];
     let used = desk_text::judge(first, &log, second, &bundle, &mut line);
-    rt.stdout().write_all(&line[..used])
+    rt.write_all(&line[..used])
 }
