@@ -1,6 +1,7 @@
 // Answers the cases of docs/src/examples/compare: the stream comes from standard input, the replies go to standard
 // output.
 #![tactic(auto)]
+
 mod can_sheet;
 mod ethernet_sheet;
 mod flexray_sheet;

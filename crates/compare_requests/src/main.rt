@@ -1,6 +1,7 @@
 // Answers the cases of docs/src/examples/compare_requests, whose main.rs says what they are: they come from standard
 // input, the replies go to standard output.
 #![tactic(auto)]
+
 mod lines;
 mod rings;
 mod stream;

@@ -1,5 +1,6 @@
 // Reads the files `log` and `bundle` of its folder and prints the verdict on them.
 #![tactic(auto)]
+
 use std::io;
 
 fn main(rt: HostRuntime) -> io::Result<()> {

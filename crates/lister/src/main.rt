@@ -1,5 +1,6 @@
 // Reads a log from standard input and prints its objects.
 #![tactic(auto)]
+
 use std::io;
 
 fn main(rt: HostRuntime) -> io::Result<()> {
