@@ -126,11 +126,12 @@ class Function:
                 continue
             done.add(old)
             text = re.sub(r"(?<![\w₀-₉'.-])(" + W + r")\." + re.escape(old).replace("_", "[-_]") + r"(?![\w₀-₉'-])", lambda m: m.group(1) + ".@" + new, text)
-        args = set(re.findall(r"\blet (" + W + r") = [\w.-]+\.args in", text))
+        # a variable that stands for a step, and not for a value
+        steps = {"c"} | {m.group(1) for m in re.finditer(r"\blet (" + W + r") = (" + W + r") in", text)}
 
         def label(m):
             name = m.group(2) if m.re.groups > 1 else m.group(1)
-            if m.group(1) in args:
+            if m.re.groups > 1 and m.group(1) not in steps:
                 return "." + name
             if name in labels:
                 return "." + labels[name]
@@ -149,13 +150,18 @@ class Function:
             )
         text = text.replace(".@", ".")
         # a test that was turned round says what the call returned
-        text = re.sub(r"\(?not-(?:true|false) _ (\w+\.if-not-[\w-]+\.(?:true|false))\)?", lambda m: m.group(1) if m.group(0).count("(") == m.group(0).count(")") else m.group(0).replace("not-true _ ", "").replace("not-false _ ", ""), text)
+        text = re.sub(r"not-(?:true|false) _ \((\w+\.if-not-[\w-]+\.)(true|false)\)", r"\1@\2", text)
+        text = re.sub(r"not-(?:true|false) _ (\w+\.if-not-[\w-]+\.)(true|false)", r"\1@\2", text)
+        text = re.sub(r"(\w+\.if-not-[\w-]+\.(?:true|false))(?![\w-])", r"(ap not \1)", text)
+        text = text.replace(".@", ".").replace(" κs", "")
+        # what an arm for all other variants knows of the tag
+        text = re.sub(r"(?<!opened )(\w+\.in_default[\w-]*\.in_default[\w-]*-own\.keys\d+)", r"(opened \1)", text)
         # a name for an earlier step is a name for all of them
         while True:
             m = re.search(r"\blet (" + W + r") = c in\s+", text)
             if not m:
                 break
-            text = text[: m.start()] + re.sub(r"(?<![\w₀-₉'.-])" + re.escape(m.group(1)) + r"(?![\w₀-₉'-])", "c", text[m.end() :])
+            text = text[: m.start()] + re.sub(r"(?<![\w₀-₉'.-])" + re.escape(m.group(1)) + r"(?![\w₀-₉'-])(?! = )", "c", text[m.end() :])
         # only the first step after a variable is a label; what follows keeps its name
         return text
 
@@ -297,6 +303,10 @@ class Function:
             out = re.sub(r"\btie\.", "goal.", out)
             out = out.replace(" invariant-loop decreases-loop", "")
         path = f"Rattle.{self.crate}.proofs.{self.path}"
+        have = "\n".join(uses)
+        for word, module in (("opened", "borrow.Enum.Refused"), ("not", "mathlib.Core.Bool"), ("ap", "mathlib.Core.Path")):
+            if re.search(r"\((?:ap )?" + word + r" ", out) and not re.search(r"[{ ]" + word + r"[,}]", have):
+                uses.append(f"use {module}.{{{word}}}")
         header = "\n".join(head)
         if invariants:
             with open(f"{self.folder}/Invariants.antt", "w", encoding="utf-8") as f:

@@ -7,8 +7,6 @@ use Prim.Native.Nat.{ℕ, zero, suc}
 use native.Mathlib.Omega.{arith}
 use lib.ListN.{length, take, drop}
 use lib.Seq.{take_at}
-use Rattle.fields.specs.Same.{same}
-use Rattle.fields.proofs.Sames.{same_eq}
 use Rattle.headers.specs.declared.header.Header.{Header}
 use Rattle.headers.specs.Header.{Fit}
 use Rattle.headers.specs.Format.{unit_ok}
@@ -20,7 +18,8 @@ use Rattle.asc_lines.specs.declared.told.Told.{Told}
 use Rattle.asc_lines.specs.declared.reading.Reading.{Reading}
 use Rattle.asc_lines.specs.Told.{of_message, of_overload, of_statistic}
 use Rattle.asc_lines.specs.Lines.{line_of}
-use Rattle.asc_lines.specs.Reading.{candidate, possible_time, told, no_line, line_read}
+use Rattle.asc_lines.specs.Reading.{candidate, possible_time, same, told, no_line, line_read}
+use Rattle.asc_lines.proofs.Sames.{same_eq}
 use Rattle.asc_lines.proofs.Readings.{alike}
 use Rattle.asc_lines.proofs.Parsing.{message_line, overload_line, statistic_line}
 use Rattle.asc.specs.Tells.{seconds_of, nanos_of, head_told, frame_told, counts_told, Event, message, overload, statistic, tells}

@@ -4,7 +4,6 @@ use Prim.Native.String.{String}
 use mathlib.Core.Path.{◌≡◌, refl}
 use mathlib.Core.Bool.{Bool, true, false}
 use mathlib.Core.List.{List, [], ◌∷◌}
-use Rattle.fields.specs.Same.{same}
 use Rattle.digits.specs.Digits.{glyph, fixed, fewest, decimal, hex}
 use Rattle.digits.specs.Pairs.{pairs, bytes_in, filled}
 use Rattle.digits.specs.Reading.{digit, scan, number}
@@ -16,7 +15,7 @@ use Rattle.asc_lines.specs.declared.told.Told.{Told}
 use Rattle.asc_lines.specs.declared.reading.Reading.{Reading}
 use Rattle.asc_lines.specs.Told.{no_frame, no_counts, of_message, of_overload, of_statistic, shown}
 use Rattle.asc_lines.specs.Lines.{head_of, id_of, frame_of, load_of, counts_of, rest_of, line_of}
-use Rattle.asc_lines.specs.Reading.{seconds_in, nanos_in, channel_in, head_in, id_in, mid_in, dlc_in, frame_in, count_in, whole_in, load_in, counts_in, candidate, possible_time, told, no_line, line_read}
+use Rattle.asc_lines.specs.Reading.{seconds_in, nanos_in, channel_in, head_in, id_in, mid_in, dlc_in, frame_in, count_in, whole_in, load_in, counts_in, candidate, possible_time, same, told, no_line, line_read}
 use Rattle.asc.specs.Tells.{seconds_of, nanos_of, head_told, kept, frame_told, counts_told, Event, message, overload, statistic, tells}
 
 -- a text, and what reading it gives

@@ -10,8 +10,7 @@ use Rattle.digits.proofs.PairLaws.{length_bytes}
 use Rattle.asc_lines.specs.declared.told.Told.{Told}
 use Rattle.asc_lines.specs.Lines.{line_of}
 use Rattle.asc_lines.specs.Told.{no_frame, of_message, of_overload, of_statistic}
-use Rattle.fields.specs.Same.{same}
-use Rattle.asc_lines.specs.Reading.{stands, head_in, head_end, dlc_in, frame_in, counts_in, candidate, possible_time, told, no_line, line_read}
+use Rattle.asc_lines.specs.Reading.{stands, head_in, head_end, dlc_in, frame_in, counts_in, candidate, possible_time, same, told, no_line, line_read}
 use Rattle.asc_lines.proofs.Parsing.{shown_most}
 
 filled_eight : (k : ℕ) (s : List ℕ) (at : ℕ) → k ≤ 8 → length (filled k s at) ≡ 8

@@ -1,3 +1,4 @@
+pub mod Sames
 pub mod Times
 pub mod Parts
 pub mod Readings

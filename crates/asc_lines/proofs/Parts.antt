@@ -8,7 +8,7 @@ use native.Mathlib.Omega.{arith}
 use borrow.Author.Tests.{eq-eqb, ne_eqb}
 use lib.ListN.{get_or, take}
 use Rattle.digits.specs.Pairs.{pairs}
-use Rattle.digits.specs.Text.{Said, text}
+use Rattle.digits.specs.Text.{Said}
 use Rattle.asc_lines.specs.declared.told.Told.{Told}
 use Rattle.asc_lines.specs.Told.{of_message, of_overload, of_statistic, shown}
 use Rattle.asc_lines.specs.Reading.{stands}

@@ -6,8 +6,6 @@ use Prim.Native.Nat.{ℕ, ◌+◌, ◌*◌, ◌%◌, ◌^◌, ◌<◌}
 use borrow.Author.Tests.{eq-eqb, ne_eqb}
 use lib.ListN.{get_or}
 use lib.Dec.{eqb}
-use Rattle.fields.specs.Same.{same}
-use Rattle.fields.proofs.Sames.{same_refl, same_not}
 use Rattle.digits.specs.Reading.{number}
 use Rattle.digits.specs.Pairs.{filled}
 use Rattle.digits.specs.declared.reading.Number.{Number}
@@ -19,7 +17,8 @@ use Rattle.asc_lines.specs.declared.told.Told.{Told}
 use Rattle.asc_lines.specs.declared.reading.Reading.{Reading}
 use Rattle.asc_lines.specs.Told.{of_message, of_overload, of_statistic, shown}
 use Rattle.asc_lines.specs.Lines.{line_of}
-use Rattle.asc_lines.specs.Reading.{stands, seconds_in, nanos_in, channel_in, head_in, head_end, id_in, mid_in, dlc_in, frame_in, count_in, d_in, r_in, xd_in, xr_in, e_in, o_in, whole_in, load_in, counts_in, candidate, possible_time, told, no_line, line_read}
+use Rattle.asc_lines.specs.Reading.{stands, seconds_in, nanos_in, channel_in, head_in, head_end, id_in, mid_in, dlc_in, frame_in, count_in, d_in, r_in, xd_in, xr_in, e_in, o_in, whole_in, load_in, counts_in, candidate, possible_time, same, told, no_line, line_read}
+use Rattle.asc_lines.proofs.Sames.{same_refl, same_not}
 
 -- a number of at most k digits is below b ^ k
 pub low : (b k : ℕ) (s : List ℕ) (at : ℕ) {n : Number} → 1 < b → n ≡ number b k s at → n.value < b ^ k

@@ -1,8 +1,7 @@
 -- W-201: a text read as a line. Its numbers are taken out of it, at most so many digits of each and what fits the
 -- field; then it is what they tell where a stamp can have this time and their line is this very text. What that means
 -- of records is `line_exact` and `no_line_exact` of asc/proofs/Exact.
-use Rattle.std.specs.Prelude.{ℕ, ◌+◌, ◌*◌, ◌/◌, ◌%◌, Bool, cond, ◌&&◌, ◌||◌, List, get_or, ltb, eqb}
-use Rattle.fields.specs.Same.{same}
+use Rattle.std.specs.Prelude.{ℕ, ◌+◌, ◌*◌, ◌/◌, ◌%◌, Bool, true, false, cond, ◌&&◌, ◌||◌, List, [], ◌∷◌, get_or, ltb, eqb}
 use Rattle.digits.specs.Reading.{number}
 use Rattle.digits.specs.Pairs.{filled}
 use Rattle.digits.specs.declared.reading.Number.{Number}
@@ -111,6 +110,12 @@ possible_time seconds nanos =
     ltb nanos 1000000000
     && (ltb (seconds * 1000000000 + nanos) 18446744073709551616
     || (eqb (nanos % 10000) 0 && ltb (seconds * 100000 + nanos / 10000) 18446744073709551616))
+
+unfoldable pub same : List ℕ → List ℕ → Bool
+same [] [] = true
+same [] (y ∷ ys) = false
+same (x ∷ xs) [] = false
+same (x ∷ xs) (y ∷ ys) = eqb x y && same xs ys
 
 -- the text is a line and tells t; it is none: 30, and zeros
 unfoldable pub told : Told → Reading

@@ -1,5 +1,6 @@
 // ASC lines of CAN events: what a line tells, the line of what is told, and a text read as a line.
 #![tactic(auto)]
+
 mod reading;
 mod told;
 mod writing;

@@ -4,7 +4,7 @@ ghost use Rattle.asc_lines.specs.Told.{no_frame, no_counts, of_message, of_overl
 ghost use Rattle.asc_lines.specs.Told.{shown as Told·shown};
 
 // The time, as whole seconds and the nanoseconds over, and the channel: every line has them.
-#[derive(Drop)]
+#[derive(Clone, Copy)]
 pub struct Head {
     pub seconds: u64,
     pub nanos: u32,
@@ -12,7 +12,7 @@ pub struct Head {
 }
 
 // What a message's line tells.
-#[derive(Drop)]
+#[derive(Clone, Copy)]
 pub struct Frame {
     // without bit 31, which says extended
     pub id: u32,
@@ -26,7 +26,7 @@ pub struct Frame {
 }
 
 // What a statistic's line tells, in the object's order.
-#[derive(Drop)]
+#[derive(Clone, Copy)]
 pub struct Counts {
     // in 1/100 percent
     pub load: u16,
@@ -39,7 +39,7 @@ pub struct Counts {
 }
 
 // What a line tells: the type of its object, 1, 3 or 4; and zeros where such a line does not tell them.
-#[derive(Drop)]
+#[derive(Clone, Copy)]
 pub struct Told {
     pub kind: u32,
     pub head: Head,

@@ -7,7 +7,7 @@ ghost use Rattle.can.specs.Fields.{message_of};
 
 use crate::front::{Front, get_front, put_front};
 
-#[derive(Drop)]
+#[derive(Clone, Copy)]
 pub struct Message {
     pub header: headers::Header,
     pub channel: u16,

@@ -1,5 +1,6 @@
 // The CAN records of document 000 and W-208, read out of a log and written into a buffer.
 #![tactic(auto)]
+
 mod fd_message;
 mod message;
 mod message_two;

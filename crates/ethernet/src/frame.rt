@@ -11,7 +11,7 @@ ghost use Rattle.ethernet.specs.Tables.{frame_slots};
 use crate::event::{length_fault, put_event};
 
 // Structure length and frame length are not kept: they follow from the frame's bytes, which are lent beside the record.
-#[derive(Drop)]
+#[derive(Clone, Copy)]
 pub struct Frame {
     pub header: headers::Header,
     pub flags: u16,

@@ -1,5 +1,6 @@
 // The Ethernet records of document 003, read out of a log and written into a buffer.
 #![tactic(auto)]
+
 mod frame;
 mod frame_error;
 mod status;

@@ -8,7 +8,7 @@ ghost use Rattle.headers.specs.Form.{body_fault};
 ghost use Rattle.flexray.specs.Tables.{origin_slots, slot_slots, controller_slots, receive_slots};
 ghost use Rattle.flexray.specs.Fields.{receive_of, counts_ok, receive_format};
 
-#[derive(Drop)]
+#[derive(Clone, Copy)]
 pub struct Receive {
     pub header: headers::Header,
     pub channel: u16,

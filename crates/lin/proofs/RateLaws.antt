@@ -30,7 +30,7 @@ rate_top false b s y e = e
 
 rate_fields : (s : Bool) (x t : ℕ) → rate_ok (of_fields binary64 s x t) ≡ (not (eqb x (ones binary64)) && not s)
 unfolding of_fields
-rate_fields s zero t = rate_odd _ s t 0 _
+rate_fields s zero t = rate_odd (prec binary64) s t 0 (low binary64)
 rate_fields s (suc x) t = rate_top (eqb (suc x) (ones binary64)) (eqb t 0) s _ (rate_odd (prec binary64) s (hid binary64 + t) x (low binary64))
 
 exponent : ℕ → ℕ
@@ -73,15 +73,15 @@ same_number (fin s m e) d = tt
 
 -- which bits are a NaN's, as code tests them
 
-is_nan : (x : Float) → is_nan x ≡ true → nan ≡ x
+is_nan_nan : (x : Float) → is_nan x ≡ true → nan ≡ x
 unfolding is_nan
-is_nan nan h = refl
-is_nan (inf s) h = absurd (subst T (sym h) tt)
-is_nan (fin s m e) h = absurd (subst T (sym h) tt)
+is_nan_nan nan h = refl
+is_nan_nan (inf s) h = absurd (subst T (sym h) tt)
+is_nan_nan (fin s m e) h = absurd (subst T (sym h) tt)
 
-pub nan_bits : (n : ℕ) → infinity < n % top binary64 → div binary64 (of_bits binary64 0) (of_bits binary64 0) ≡ of_bits binary64 n
+pub nan_bits_same : (n : ℕ) → infinity < n % top binary64 → div binary64 (of_bits binary64 0) (of_bits binary64 0) ≡ of_bits binary64 n
 unfolding div of_bits of_fields odd
-nan_bits n h = is_nan (of_bits binary64 n) (sym (nan_bits_is binary64 n) ∙ nan_bits_above binary64 n ∙ lt-ltb infinity (n % top binary64) h)
+nan_bits_same n h = is_nan_nan (of_bits binary64 n) (sym (nan_bits_is binary64 n) ∙ nan_bits_above binary64 n ∙ lt-ltb infinity (n % top binary64) h)
 
 pub number_bits : (n : ℕ) → n % top binary64 ≤ infinity → T (not (nan_bits binary64 n))
 number_bits n h = rw (nan_bits_above binary64 n, le-ltb infinity (n % top binary64) h) tt

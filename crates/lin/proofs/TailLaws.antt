@@ -7,7 +7,7 @@ use mathlib.Core.Logic.{inl, inr, ⊎_elim}
 use Prim.Native.Nat.{ℕ, ◌+◌, ◌≤◌}
 use native.Mathlib.Nat.{le_of_eq}
 use native.Mathlib.Omega.{arith}
-use package.types.Run.{OneOf}
+use types.Run.{OneOf}
 use denote.Enum.Declared.{tag_of}
 use lib.Dec.{lit≤}
 use lib.ListN.{length}

@@ -12,7 +12,7 @@ ghost use Rattle.lin.specs.Fields.{tail_ok, message_of, message_format};
 use crate::bus::put_bus;
 use crate::tail::{Tail, get_tail, put_tail, tail_ok};
 
-#[derive(Drop)]
+#[derive(Clone, Copy)]
 pub struct Message {
     pub header: headers::Header,
     pub start: u64,

@@ -7,7 +7,7 @@ ghost use Rattle.lin.specs.Tail.{rates, tail};
 ghost use Rattle.lin.specs.Fields.{tail_of, rate_ok, tail_ok};
 
 // Nothing; the response's baud rate; or that, the header's exact baud rate and the two stop-bit offsets.
-#[derive(Drop)]
+#[derive(Clone, Copy)]
 pub enum Tail {
     Nothing,
     Response(u32),

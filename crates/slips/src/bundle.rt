@@ -4,7 +4,7 @@ ghost use Rattle.slips.specs.Cut.{entries_in, rises_from, shape_ok, fault_of, cu
 ghost use Rattle.slips.specs.Inner.Places.{placed};
 
 // What is left of a slip: its next entry, and its end.
-#[derive(Drop)]
+#[derive(Clone, Copy)]
 pub struct Place {
     pub at: usize,
     pub end: usize,

@@ -1,0 +1,12 @@
+-- `can::put_message` meets its contract: the front, and the data bytes behind it. Assumes nothing.
+use borrow.Author.Rules.{rules}
+use Rattle.fields.proofs.Puts.{done, put, first_chunk, written}
+use Rattle.can.specs.Tables.{front_slots, message_slots}
+use Rattle.can.proofs.Fronts.{front_written}
+use Rattle.can.proofs.message.put_message.Goals as goal
+
+pub returns : goal.returns
+unfolding message_slots
+returns c =
+    let r = c.args.r in
+    written (first_chunk (front_slots _) tt (front_written r _ c.put_front.ensures) (put c.put8x8.ensures done))

@@ -1,0 +1,11 @@
+-- `can::overload_fault` meets its contract: the code reads like the definition. Assumes nothing.
+use mathlib.Core.Path.{ap, ◌∙◌}
+use mathlib.Core.Bool.{Bool}
+use borrow.Author.Rules.{rules}
+use Rattle.headers.specs.HeadTests.{first}
+use Rattle.headers.proofs.BodyTests.{in_turn_is}
+use Rattle.can.specs.Fields.{overload_format}
+use Rattle.can.proofs.overload.overload_fault.Goals as goal
+
+pub returns : goal.returns
+returns c = c.first.ensures ∙ ap (λ (ok : Bool). first 8 ok 0) c.all_zero.ensures ∙ in_turn_is overload_format _

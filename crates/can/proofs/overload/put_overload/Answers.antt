@@ -1,0 +1,9 @@
+-- `can::put_overload` meets its contract: one field behind the other. Assumes nothing.
+use borrow.Author.Rules.{rules}
+use Rattle.fields.proofs.Puts.{written, slots}
+use Rattle.can.specs.Tables.{overload_slots}
+use Rattle.can.proofs.overload.put_overload.Goals as goal
+
+pub returns : goal.returns
+unfolding overload_slots
+returns c = written (search slots depth 14)

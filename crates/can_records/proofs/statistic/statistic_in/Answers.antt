@@ -1,0 +1,14 @@
+-- `can_records::statistic_in` meets its contract: the object's record, or the record of zeros. Assumes nothing.
+use borrow.Author.Rules.{rules}
+use Rattle.headers.specs.Types.{statistic}
+use Rattle.headers.proofs.Bodies.{header_held, body_held}
+use Rattle.outcomes.proofs.Reading.{in_long, in_short}
+use mathlib.Core.Bool.{not}
+use mathlib.Core.Path.{ap}
+use Rattle.can_records.proofs.statistic.statistic_in.Goals as goal
+
+pub returns-then-not-holds : goal.returns-then-not-holds
+returns-then-not-holds c = in_short statistic _ (λ r. r) c.holds.ensures (ap not c.if-not-holds.true) c.no_header.ensures c.get_statistic.ensures
+
+pub returns : goal.returns
+returns c = in_long statistic _ (λ r. r) c.holds.ensures (ap not c.if-not-holds.false) c.get_header.ensures c.body.ensures c.get_statistic-2.ensures

@@ -1,0 +1,7 @@
+-- `ethernet_records::read_forwarded_frame` meets its contract: it is `read_as` for its number. Assumes nothing.
+use mathlib.Core.Path.{refl}
+use borrow.Author.Rules.{rules}
+use Rattle.ethernet_records.proofs.frame.read_forwarded_frame.Goals as goal
+
+pub returns : goal.returns
+returns c = c.read_as.ensures.1 refl

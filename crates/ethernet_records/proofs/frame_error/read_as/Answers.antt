@@ -1,0 +1,18 @@
+-- `ethernet_records::frame_error::read_as` meets its contract: the record of what a look cut out of the log; of the two
+-- types it is the same. Assumes nothing.
+use borrow.Author.Rules.{rules}
+use Rattle.headers.specs.Types.{ethernet_error, forwarded_error}
+use Rattle.outcomes.specs.Reads.{record_in}
+use Rattle.outcomes.proofs.Looks.{look_within}
+use Rattle.outcomes.proofs.Reading.{reads_as}
+use Rattle.ethernet_records.proofs.frame_error.read_as.Goals as goal
+
+pub cut-requires : goal.cut-requires
+cut-requires c = look_within _ _ _ c.look-l.ensures
+
+pub returns : goal.returns
+unfolding record_in
+returns c =
+    let l = c.look-l.ensures in
+    let o = c.cut.ensures in
+    (reads_as ethernet_error (λ f. f.value) _ _ l o c.error_in-value.ensures, reads_as forwarded_error (λ f. f.value) _ _ l o c.error_in-value.ensures)

@@ -1,8 +1,0 @@
--- `ethernet_records::read_error` meets its contract: it is `read_as` for its number. Assumes nothing.
-use mathlib.Core.Path.{refl}
-use borrow.Author.Rules.{rules}
-use Rattle.ethernet_records.proofs.frame_error.read_error.Statement.{statement}
-use Rattle.ethernet_records.proofs.frame_error.read_error.Tie as tie
-
-pub read_error_spec : {M : Type 1} → statement M
-read_error_spec = tie.close (tie.spec (λ c κs. search rules) (λ c. c.read_as.ensures.0 refl))

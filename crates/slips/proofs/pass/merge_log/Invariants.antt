@@ -1,0 +1,17 @@
+-- `slips::merge_log` meets its contract: before each turn what is left of the walk and of the merge decides
+-- (`MergingLog`); each way out is one law of proofs/Loops/MergingLog. Assumes nothing.
+use mathlib.Core.Path.{sym, ap, ◌∙◌}
+use Prim.Native.Nat.{◌-◌}
+use borrow.Author.Rules.{rules}
+use lib.ListN.{length}
+use Rattle.objects.specs.declared.Step.{Step}
+use Rattle.objects.proofs.Answers.{left}
+use Rattle.slips.proofs.Loops.MergingLog as merging
+use borrow.Enum.Refused.{opened}
+use Rattle.slips.proofs.pass.merge_log.Given as goal
+
+abbrev pub invariant-loop-start : goal.invariant-loop-start
+invariant-loop-start l = merging.MergingLog l.log l.b l.initial.slips l.c.at l.n l.slips
+
+abbrev pub decreases-loop-start : goal.decreases-loop-start
+decreases-loop-start l = length l.log - l.c.at
