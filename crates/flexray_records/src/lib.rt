@@ -1,5 +1,6 @@
 // The FlexRay record of document 002, read out of a log and written into a buffer.
 #![tactic(auto)]
+
 mod receive;
 
 pub use receive::{ReceiveRead, read_receive, receive_in, write_receive};

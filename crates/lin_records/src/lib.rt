@@ -1,5 +1,6 @@
 // The LIN records of document 001, read out of a log and written into a buffer.
 #![tactic(auto)]
+
 mod message;
 mod wake_up;
 

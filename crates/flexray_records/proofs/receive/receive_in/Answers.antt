@@ -1,0 +1,14 @@
+-- `flexray_records::receive_in` meets its contract: the object's record, or the record of zeros. Assumes nothing.
+use borrow.Author.Rules.{rules}
+use Rattle.headers.specs.Types.{receive}
+use Rattle.headers.proofs.Bodies.{header_held, body_held}
+use Rattle.outcomes.proofs.Reading.{in_long, in_short}
+use mathlib.Core.Bool.{not}
+use mathlib.Core.Path.{ap}
+use Rattle.flexray_records.proofs.receive.receive_in.Goals as goal
+
+pub returns-then-not-holds : goal.returns-then-not-holds
+returns-then-not-holds c = in_short receive _ (λ r. r) c.holds.ensures (ap not c.if-not-holds.true) c.no_header.ensures c.get_receive.ensures
+
+pub returns : goal.returns
+returns c = in_long receive _ (λ r. r) c.holds.ensures (ap not c.if-not-holds.false) c.get_header.ensures c.body.ensures c.get_receive-2.ensures
