@@ -7,10 +7,10 @@ pub returns-then-out-lt2 : goal.returns-then-out-lt2
 returns-then-out-lt2 c = unplaced _ _ _ _ c.if-out-lt2.true
 
 pub returns-in-Line : goal.returns-in-Line
-returns-in-Line c = placed _ _ _ _ c.if-out-lt2.false c.line_at_lem.ensures.0 c.line_at_lem.ensures.1 c.in-Line.is c.tell_two.ensures
+returns-in-Line c = placed _ _ _ _ c.if-out-lt2.false c.line_at-step.ensures.0 c.line_at-step.ensures.1 c.in-Line.is c.tell_two.ensures
 
 pub returns-in-Done : goal.returns-in-Done
-returns-in-Done c = placed _ _ _ _ c.if-out-lt2.false c.line_at_lem.ensures.0 c.line_at_lem.ensures.1 c.in-Done.is c.tell_two-in-Done.ensures
+returns-in-Done c = placed _ _ _ _ c.if-out-lt2.false c.line_at-step.ensures.0 c.line_at-step.ensures.1 c.in-Done.is c.tell_two-in-Done.ensures
 
 pub returns-in-Refused : goal.returns-in-Refused
-returns-in-Refused c = placed _ _ _ _ c.if-out-lt2.false c.line_at_lem.ensures.0 c.line_at_lem.ensures.1 c.in-Refused.is c.tell_two-in-Refused.ensures
+returns-in-Refused c = placed _ _ _ _ c.if-out-lt2.false c.line_at-step.ensures.0 c.line_at-step.ensures.1 c.in-Refused.is c.tell_two-in-Refused.ensures
