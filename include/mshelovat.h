@@ -1,4 +1,4 @@
-/* Mshelovat for C: the calls of the proved crate `exported`, linked from libexported.a (`rt staticlib exported`). The
+/* Mshelovat for C: the calls of the proved crate `exported`, linked from libexported.a (tools/archive exported). The
  * archive is x86-64 and does not link into native programs on Arm.
  *
  * Each call returns a number and writes its values to the front of the numbers lent to it; what stands behind them

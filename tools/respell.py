@@ -103,9 +103,8 @@ def code_parts(line, mark):
     return line, ""
 
 
-def main():
-    root = "."
-    dry = "--dry" in sys.argv
+def table(root):
+    """The repository's own names below root and what each is called now."""
     names, foreign, lower = {}, set(), set()
     for p in every(root):
         foreign |= set(outside(read(p)))
@@ -134,6 +133,13 @@ def main():
             print("falls together:", n, "->", new, "(std)" if new in foreign else "", sorted(names[n])[:2], back.get(new))
         back[new] = n
         turned[n] = new
+    return turned
+
+
+def main():
+    root = "."
+    dry = "--dry" in sys.argv
+    turned = table(root)
 
     def turn(m):
         return turned.get(m.group(0), m.group(0))
@@ -163,4 +169,5 @@ def main():
     print(f"respelt {len(turned)} names in {count} files")
 
 
-main()
+if __name__ == "__main__":
+    main()

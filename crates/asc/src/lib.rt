@@ -1,5 +1,6 @@
 // ASC lines for CAN (W-201): the lines of the CAN records written, out of a log too, and a text read as a line.
 #![tactic(auto)]
+
 mod at_cursor;
 mod object;
 mod record;

@@ -1,5 +1,6 @@
 // Cases, and what the proved library answers to each: for the comparison with the plain Rust reader of docs/src.
 #![tactic(auto)]
+
 mod replies;
 mod writing;
 

@@ -1,20 +1,21 @@
 -- What the loop of the count knows: with so many rows behind the two cursors, what is met from there on gives the whole
 -- count. Assumes nothing.
-use mathlib.Core.Path.{◌≡◌, refl, sym, ap, ◌∙◌}
-use mathlib.Core.List.{List, [], ◌∷◌}
+use mathlib.Core.Path.{◌≡◌, refl, sym, ap, subst, ◌∙◌}
+use mathlib.Core.List.{List}
 use Prim.Native.Nat.{ℕ, suc, ◌+◌, ◌*◌, ◌-◌, ◌≤◌, ◌<◌}
 use native.Mathlib.Nat.{zero-add}
 use native.Mathlib.Omega.{arith}
 use lib.ListN.{length}
-use Rattle.objects.specs.declared.Walked.{Walked}
 use Rattle.objects.specs.declared.Walked.TheVariants as walked
 use Rattle.objects.specs.Next.{next_at}
-use Rattle.objects.specs.Stepping.{Ended, at_end, refused, no_step_left, met_at}
+use Rattle.objects.specs.declared.Answer.TheVariants.{Object, Done, Refused}
+use Rattle.objects.specs.Stepping.{Ended, at_end, refused, no_step_left, Met, met_at}
+use Rattle.objects.proofs.Walks.{met_object, met_done, met_refused}
 use Rattle.objects.specs.Walk.{walked_by, walk_of}
 use Rattle.differences.specs.declared.Compared.{Compared}
-use Rattle.differences.specs.declared.Compared.TheVariants.{Rows, First, Second, Neither}
+use Rattle.differences.specs.declared.Compared.TheVariants.{Rows, First, Second}
 use Rattle.differences.specs.declared.turns.Pair.TheVariants as pair
-use Rattle.differences.specs.Rows.{Row, rows_of}
+use Rattle.differences.specs.Rows.{rows_from, rows_of}
 use Rattle.differences.specs.Comparing.{in_order}
 use Rattle.differences.specs.Turns.{pair_of, else_second, count_of}
 use Rattle.differences.proofs.Turning.{on, rows_met, Gone, turned}
@@ -57,9 +58,9 @@ counting_none s t =
 
 module _ {s t : List ℕ} {at bt rows : ℕ} (w : Counting s t at bt rows) where
   -- a turn more
-  go_on : {n : ℕ} (more : ℕ) → more ≤ 1 → Gone s t at bt → length (rows_met s t w.number at bt) ≡ more + length (rows_met s t n (on s at) (on t bt))
+  go_on : (n more : ℕ) → more ≤ 1 → Gone s t at bt → length (rows_met s t w.number at bt) ≡ more + length (rows_met s t n (on s at) (on t bt))
       → Counting s t (on s at) (on t bt) (rows + more)
-  go_on {n} more l g e =
+  go_on n more l g e =
       let r = length (rows_met s t n (on s at) (on t bt)) in
       let c : (rows + more) + r ≡ rows + length (rows_met s t w.number at bt) = omega (arith, e) in
       record {
@@ -74,21 +75,29 @@ module _ {s t : List ℕ} {at bt rows : ℕ} (w : Counting s t at bt rows) where
   less g = omega (arith, w.within, w.inside, g.first.within, g.second.within, g.further)
 
   module _ (q : pair_of s t (next_at s at).answer (next_at t bt).answer ≡ pair.Equal) where
-    gone_equal : Gone s t at bt
+    pub gone_equal : Gone s t at bt
     gone_equal = (turned s t at bt w.number q).0
 
-    pub counting_equal : Counting s t (on s at) (on t bt) (rows + 0)
-    counting_equal = go_on 0 (omega arith) gone_equal (ap length (turned s t at bt w.number q).1 ∙ sym (zero-add _))
+    pub counting_equal : Counting s t (on s at) (on t bt) rows
+    counting_equal =
+        let z : rows + 0 ≡ rows = omega arith in
+        subst (λ (k : ℕ). Counting s t (on s at) (on t bt) k) z (go_on _ 0 (omega arith) gone_equal (ap length (turned s t at bt w.number q).1 ∙ sym (zero-add _)))
 
   pub gone_row : {kind : ℕ} → pair_of s t (next_at s at).answer (next_at t bt).answer ≡ pair.Row kind → Gone s t at bt
   gone_row q = (turned s t at bt w.number q).0
 
   pub counting_row : {kind : ℕ} → pair_of s t (next_at s at).answer (next_at t bt).answer ≡ pair.Row kind → Counting s t (on s at) (on t bt) (rows + 1)
-  counting_row q = go_on 1 (omega arith) (gone_row q) (ap length (turned s t at bt w.number q).1)
+  counting_row q =
+      let e = ap length (turned s t at bt w.number q).1 in
+      go_on (suc w.number) 1 (omega arith) (gone_row q) (omega (arith, e))
 
   -- the ways out
   pub count_end : pair_of s t (next_at s at).answer (next_at t bt).answer ≡ pair.End → Rows rows ≡ count_of s t
-  count_end q = let a = turned s t at bt w.number q in let e = w.same in ?
+  unfolding rows_from
+  count_end q =
+      let a = turned s t at bt w.number q in
+      let z : rows ≡ rows + 0 = omega arith in
+      ap Rows z ∙ (λ i. ending (sym a.0 i).ended (sym a.1 i).ended (rows + length (rows_from s t w.number (sym a.0 i).objects (sym a.1 i).objects))) ∙ w.same
 
   pub count_first : {k p : ℕ} → pair_of s t (next_at s at).answer (next_at t bt).answer ≡ pair.First k p → First k p ≡ count_of s t
   count_first q = let e = w.same in rw (turned s t at bt w.number q) at e
@@ -97,4 +106,22 @@ module _ {s t : List ℕ} {at bt rows : ℕ} (w : Counting s t at bt rows) where
   unfolding else_second
   count_second {k} {p} q =
       let a = turned s t at bt w.number q in
-      unrowed (met_at s (on s at)).ended k p 0 _ ∙ (λ i. ending (a.1 i) (a.0 (~ i)) (rows + length (rows_met s t w.number at bt))) ∙ w.same
+      unrowed (met_at s (on s at)).ended k p 0 _ ∙ (λ i. ending (a.1 i) (sym a.0 i) (rows + length (rows_met s t w.number at bt))) ∙ w.same
+
+-- the walk of the first log alone, from a place on
+module _ (s : List ℕ) (at k p : ℕ) where
+  abbrev told_by : Ended → Compared
+  told_by e = in_order (walked_by e 0) (walked.Refused k p) (Rows 0)
+
+  pub second_on : {start size kind : ℕ} → (next_at s at).answer ≡ Object start size kind → else_second s (on s at) k p ≡ else_second s at k p
+  unfolding else_second
+  second_on {start} {size} {kind} e =
+      ap (λ (m : Met). told_by m.ended) (sym (met_object s at (record { start = start; size = size; kind = kind }) e))
+
+  pub second_done : (next_at s at).answer ≡ Done → Second k p ≡ else_second s at k p
+  unfolding else_second
+  second_done e = ap (λ (m : Met). told_by m.ended) (sym (met_done s at e))
+
+  pub second_refused : {j q : ℕ} → (next_at s at).answer ≡ Refused j q → First j q ≡ else_second s at k p
+  unfolding else_second
+  second_refused e = ap (λ (m : Met). told_by m.ended) (sym (met_refused s at e))

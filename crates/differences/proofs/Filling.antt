@@ -1,19 +1,18 @@
 -- What the loop of the list knows: with i rows listed, listing the rows from the two cursors on gives the whole list.
 -- Assumes nothing.
 use mathlib.Core.Path.{◌≡◌, refl, sym, ap, ◌∙◌}
-use mathlib.Core.List.{List, [], ◌∷◌, map}
-use Prim.Native.Nat.{ℕ, suc, min, ◌+◌, ◌*◌, ◌-◌, ◌≤◌, ◌<◌}
+use mathlib.Core.List.{List, [], ◌∷◌}
+use Prim.Native.Nat.{ℕ, suc, ◌+◌, ◌*◌, ◌-◌, ◌≤◌, ◌<◌}
 use native.Mathlib.Nat.{zero-add}
 use native.Mathlib.Omega.{arith}
-use lib.ListN.{length, set, length-set}
-use lib.Seq.{sets}
+use lib.ListN.{length, length-set}
 use Rattle.objects.specs.Next.{next_at}
 use Rattle.objects.specs.Stepping.{Ended, at_end, refused, no_step_left, met_at}
-use Rattle.differences.specs.declared.Compared.{Compared}
-use Rattle.differences.specs.declared.Compared.TheVariants.{Rows, First, Second, Neither}
+use Rattle.differences.specs.declared.Compared.TheVariants.{Rows}
+use Rattle.differences.specs.declared.turns.Pair.{Pair}
 use Rattle.differences.specs.declared.turns.Pair.TheVariants as pair
-use Rattle.differences.specs.Rows.{Row, row, rows_of}
-use Rattle.differences.specs.Columns.{Columns, columns, room, listed_at}
+use Rattle.differences.specs.Rows.{Row, row, rows_from, rows_of}
+use Rattle.differences.specs.Columns.{Columns, room, listed_at}
 use Rattle.differences.specs.Turns.{pair_of, count_of}
 use Rattle.differences.proofs.Turning.{on, rows_met, Gone, turned}
 use Rattle.differences.proofs.Counting.{ending, counted_whole}
@@ -47,6 +46,10 @@ sounds at_end no_step_left m rows q = (ended, unended, cc)
 sounds no_step_left at_end m rows q = (unended, ended, cc)
 sounds no_step_left no_step_left m rows q = (unended, unended, cc)
 
+-- the same in other words
+pub filling_at : {s t : List ℕ} {rows : ℕ} {x y z : Columns} {at bt n i p q j : ℕ} → z ≡ y → p ≡ at → q ≡ bt → j ≡ i → Filling s t rows x y at bt n i → Filling s t rows x z p q n j
+filling_at e f g h w = rw (e, f, g, h) w
+
 pub filling_none : (s t : List ℕ) (rows : ℕ) (x : Columns) → count_of s t ≡ Rows rows → rows ≤ room x → Filling s t rows x x 0 0 0 0
 unfolding rows_of
 filling_none s t rows x q l =
@@ -70,6 +73,15 @@ listed_more i r rs y = let p : i + 1 ≡ suc i = omega arith in ap (λ (k : ℕ)
 room_kept : (i : ℕ) (r : Row) (y : Columns) → room (listed_at i (r ∷ []) y) ≡ room y
 unfolding room listed_at
 room_kept i r y = rw (length-set, length-set, length-set, length-set)
+
+-- no row
+listed_none : (i : ℕ) (y : Columns) → listed_at i [] y ≡ y
+unfolding listed_at
+listed_none i y = refl
+
+none_long : (rs : List Row) → length rs ≡ 0 → rs ≡ []
+none_long [] e = refl
+none_long (r ∷ rs) e = absurd (omega arith)
 
 module _ {s t : List ℕ} {rows : ℕ} {x y : Columns} {at bt n i : ℕ} (w : Filling s t rows x y at bt n i) where
   number_on : n + 1 ≡ suc n
@@ -116,7 +128,11 @@ module _ {s t : List ℕ} {rows : ℕ} {x y : Columns} {at bt n i : ℕ} (w : Fi
   -- there is a row yet: neither an end nor a refusal
   module _ (h : i < rows) where
     pub no_end : pair_of s t (next_at s at).answer (next_at t bt).answer ≡ pair.End → ⊥
-    no_end q = ?
+    unfolding rows_from
+    no_end q =
+        let a = turned s t at bt n q in
+        let e : length (rows_met s t n at bt) ≡ 0 = λ j. length (rows_from s t n (a.0 j).objects (a.1 j).objects) in
+        omega (arith, e, w.left, h)
 
     pub no_first : {k p : ℕ} → pair_of s t (next_at s at).answer (next_at t bt).answer ≡ pair.First k p → ⊥
     no_first {k} {p} q = w.first k p (turned s t at bt n q)
@@ -124,6 +140,17 @@ module _ {s t : List ℕ} {rows : ℕ} {x y : Columns} {at bt n i : ℕ} (w : Fi
     pub no_second : {k p : ℕ} → pair_of s t (next_at s at).answer (next_at t bt).answer ≡ pair.Second k p → ⊥
     no_second {k} {p} q = w.second k p (turned s t at bt n q).0
 
+    -- nor a row, where it is none
+    pub filling_other : (p : Pair) → pair_of s t (next_at s at).answer (next_at t bt).answer ≡ p → ((kind : ℕ) → p ≡ pair.Row kind → ⊥)
+        → Gone s t at bt × Filling s t rows x y (on s at) (on t bt) (n + 1) i
+    filling_other pair.Equal q o = (gone_equal q, filling_equal q)
+    filling_other (pair.Row kind) q o = absurd (o kind refl)
+    filling_other pair.End q o = absurd (no_end q)
+    filling_other (pair.First k p) q o = absurd (no_first q)
+    filling_other (pair.Second k p) q o = absurd (no_second q)
+
   -- all are listed
   pub filled : rows ≤ i → y ≡ listed_at 0 (rows_of s t) x
-  filled h = ?
+  filled h =
+      let e : rows_met s t n at bt ≡ [] = none_long _ (omega (arith, w.left, h)) in
+      sym (listed_none i y) ∙ ap (λ (r : List Row). listed_at i r y) (sym e) ∙ w.same

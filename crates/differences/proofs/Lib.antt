@@ -1,3 +1,5 @@
 pub mod Turning
 pub mod Counting
 pub mod Filling
+pub mod Rooms
+pub mod Comparisons

@@ -3,25 +3,25 @@
 use mathlib.Core.Path.{◌≡◌, refl, sym, ap, ap₂, subst, ◌∙◌}
 use mathlib.Core.Bool.{Bool, true, false, cond}
 use mathlib.Core.List.{List, [], ◌∷◌}
-use Prim.Native.Nat.{ℕ, suc, ◌+◌, ◌-◌, ◌≤◌, ◌<◌}
+use Prim.Native.Nat.{ℕ, suc, ◌+◌, ◌≤◌}
 use native.Mathlib.Omega.{arith}
-use lib.ListN.{length, drop}
+use lib.ListN.{length}
 use Rattle.fields.specs.Numbers.{part}
 use Rattle.fields.specs.Same.{same}
-use Rattle.headers.specs.Format.{size_at}
 use Rattle.objects.specs.declared.Answer.{Answer}
 use Rattle.objects.specs.declared.Answer.TheVariants.{Object, Done, Refused}
 use Rattle.objects.specs.declared.Step.{Step}
 use Rattle.objects.specs.Named.{Entry}
 use Rattle.objects.specs.Next.{next_at}
-use Rattle.objects.specs.Stepping.{Ended, at_end, refused, Met, stopped, meet, met_at}
+use Rattle.objects.specs.Stepping.{at_end, refused, Met, stopped, met_at}
 use Rattle.objects.proofs.FaultLaws.{next_done}
 use Rattle.objects.proofs.Steps.{is_at_end}
-use Rattle.objects.proofs.Walks.{Ahead, ahead, met_object, met_done, met_refused}
+use Rattle.objects.proofs.Walks.{ahead, met_object, met_done, met_refused}
+use Rattle.differences.specs.declared.turns.Turn.{Turn}
 use Rattle.differences.specs.declared.turns.Pair.{Pair}
 use Rattle.differences.specs.declared.turns.Pair.TheVariants as pair
 use Rattle.differences.specs.Rows.{Row, row, rows_from}
-use Rattle.differences.specs.Turns.{beside_none, beside, pair_of}
+use Rattle.differences.specs.Turns.{pair_of, turn_of}
 
 -- where a log goes on behind a step
 abbrev pub on : List ℕ → ℕ → ℕ
@@ -112,7 +112,7 @@ module _ (s t : List ℕ) where
       first_alone a m j o z = (
         record { first = o.kept; second = z.kept; further = omega (arith, o.further, z.stays) },
         ap₂ (λ (es fs : List Entry). rows_from s t n es fs) o.met (ap (λ (x : Met). x.objects) z.met)
-            ∙ (λ i. row n (o.here i) (z.here i) 2 ∷ rows_from s t (suc n) (met_at s (on s at)).objects (z.none (~ i))),
+            ∙ (λ i. row n (o.here i) (z.here i) 2 ∷ rows_from s t (suc n) (met_at s (on s at)).objects (sym z.none i)),
       )
 
       -- one of the second
@@ -121,7 +121,7 @@ module _ (s t : List ℕ) where
       second_alone b l k z p = (
         record { first = z.kept; second = p.kept; further = omega (arith, p.further, z.stays) },
         ap₂ (λ (es fs : List Entry). rows_from s t n es fs) (ap (λ (x : Met). x.objects) z.met) p.met
-            ∙ (λ i. row n (z.here i) (p.here i) 3 ∷ rows_from s t (suc n) (z.none (~ i)) (met_at t (on t bt)).objects),
+            ∙ (λ i. row n (z.here i) (p.here i) 3 ∷ rows_from s t (suc n) (sym z.none i) (met_at t (on t bt)).objects),
       )
 
       by_answers : (a b : Answer) → (next_at s at).answer ≡ a → (next_at t bt).answer ≡ b → After n (pair_of s t a b)
@@ -135,3 +135,17 @@ module _ (s t : List ℕ) where
 
       pub turned : {p : Pair} → pair_of s t (next_at s at).answer (next_at t bt).answer ≡ p → After n p
       turned e = subst (After n) e (by_answers (next_at s at).answer (next_at t bt).answer refl refl)
+
+-- a turn, part by part
+pub record Taken (s t : List ℕ) (at bt : ℕ) (r : Turn) : Type 0 where
+  pub pair : pair_of s t (next_at s at).answer (next_at t bt).answer ≡ r.pair
+  pub first : r.first.at ≡ on s at
+  pub second : r.second.at ≡ on t bt
+
+pub taken : {s t : List ℕ} {at bt : ℕ} {r : Turn} → r ≡ turn_of s at t bt → Taken s t at bt r
+unfolding turn_of
+taken e = record {
+  pair = ap (λ (x : Turn). x.pair) (sym e);
+  first = ap (λ (x : Turn). x.first.at) e;
+  second = ap (λ (x : Turn). x.second.at) e;
+}

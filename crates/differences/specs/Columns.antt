@@ -10,7 +10,7 @@ pub record Columns : Type 0 where
   pub kinds : List ℕ
 
 abbrev pub columns : List ℕ → List ℕ → List ℕ → List ℕ → Columns
-columns ns as bs ks = record { numbers = ns; firsts = as; seconds = bs; kinds = ks }
+columns ns fs ss ks = record { numbers = ns; firsts = fs; seconds = ss; kinds = ks }
 
 -- the length of the shortest slice
 unfoldable pub room : Columns → ℕ

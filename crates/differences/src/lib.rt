@@ -1,5 +1,6 @@
 // Two logs side by side, as two loggers on one bus wrote them: each object of the one that is not the same in the other.
 #![tactic(auto)]
+
 mod turns;
 
 ghost use Rattle.std.specs.Prelude.{◌≡◌, min};

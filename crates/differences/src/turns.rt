@@ -98,7 +98,7 @@ fn pair_of(first: &[u8], second: &[u8], one: Answer, other: Answer) -> Pair
 }
 
 // A step in each log.
-fn turn(first: &[u8], c: Cursor, second: &[u8], d: Cursor) -> Turn
+fn take_turn(first: &[u8], c: Cursor, second: &[u8], d: Cursor) -> Turn
     ensures { result ≡ turn_of first.now c.at second.now d.at }
 {
     let a = c.step(first);
@@ -153,7 +153,7 @@ pub fn count(first: &[u8], second: &[u8]) -> Compared
     let mut d = Cursor::new();
     let mut rows: usize = 0;
     loop {
-        let t = turn(first, c, second, d);
+        let t = take_turn(first, c, second, d);
         let pair = t.pair;
         let next = t.first;
         let after = t.second;
@@ -219,7 +219,7 @@ pub fn fill(
     let mut n: usize = 0;
     let mut i: usize = 0;
     while i < rows {
-        let t = turn(first, c, second, d);
+        let t = take_turn(first, c, second, d);
         let pair = t.pair;
         let next = t.first;
         let after = t.second;

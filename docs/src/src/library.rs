@@ -3,9 +3,8 @@
 //! and names the numbers that come back.
 //!
 //! It is there with the feature `speed` alone, since it asks for the archive
-//! of crate `exported`. The one that `rt staticlib exported` makes
-//! (target/staticlib/libexported.a) is x86-64 and does not link into native
-//! programs on Arm; there docs/native-object makes one to measure with.
+//! of crate `exported`: docs/native-object takes the one that tools/archive
+//! makes (target/staticlib/libexported.a), which is for x86-64.
 
 use crate::asc::LineAt;
 use crate::layout::Refusal;
