@@ -1,6 +1,7 @@
 // The calls for C and Rust: numbers and slices in, the answer's number out, its values into a lent slice.
 // A lent slice that is too short is answered by 10, and nothing is written. include/mshelovat.h has the C side.
 #![tactic(auto)]
+
 mod line;
 mod list;
 mod record;

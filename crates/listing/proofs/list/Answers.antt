@@ -3,18 +3,10 @@
 use mathlib.Core.Path.{◌∙◌}
 use native.Mathlib.Omega.{arith}
 use Rattle.fields.proofs.Writing.{wrote_length}
+use Rattle.objects.proofs.Answers.{left}
 use Rattle.listing.proofs.Listings.{listing_none, listing_more, listing_less, listing_room, listed_done, listed_refused, answers}
-use Rattle.objects.specs.declared.Answer.{Answer}
-use Rattle.objects.specs.declared.Answer.TheVariants.{Object, Done, Refused}
-use Prim.Native.Nat.{ℕ}
-use mathlib.Core.Path.{◌≡◌, refl}
+use borrow.Enum.Refused.{opened}
 use Rattle.listing.proofs.list.Goals as goal
-
--- neither an object nor a refusal: done
-only_done : (a : Answer) → ((start size kind : ℕ) → a ≡ Object start size kind → ⊥) → ((number place : ℕ) → a ≡ Refused number place → ⊥) → a ≡ Done
-only_done (Object start size kind) p q = absurd (p start size kind refl)
-only_done Done p q = refl
-only_done (Refused number place) p q = absurd (q number place refl)
 
 pub loop-start-init : goal.loop-start-init
 loop-start-init c = rw c.new-c.ensures (listing_none _ _ c.requires)
@@ -35,7 +27,7 @@ pub shape_of-out-in_default-answer : goal.shape_of-out-in_default-answer
 shape_of-out-in_default-answer c = wrote_length c.end_line.ensures.wrote ∙ c.loop-start.invariant.long
 
 pub returns-in_default-answer : goal.returns-in_default-answer
-returns-in_default-answer c = listed_done _ _ _ _ _ _ c.loop-start.invariant (answers _ _ _ c.step-step.ensures (only_done _ c.in_default.not-Object c.in_default-answer.not-Refused)) c.end_line.ensures
+returns-in_default-answer c = listed_done _ _ _ _ _ _ c.loop-start.invariant (answers _ _ _ c.step-step.ensures (left _ (opened c.in_default-answer.in_default-answer-own.keys2) (opened c.in_default.in_default-own.keys2))) c.end_line.ensures
 
 pub object_line-used-requires : goal.object_line-used-requires
 object_line-used-requires c = listing_room _ _ _ _ _ _ c.loop-start.invariant

@@ -1,7 +1,7 @@
--- `page` meets its contract: the bytes are the zeros themselves, and of so many their length is told by a lemma, since it
--- would take long to count them.
-use Rattle.std.proofs.Common.{ℕ, refl, sym}
-use Rattle.std.proofs.Math.ListN.{length-replicate}
+-- `listing::page` meets its contract: an array of one value repeated. Assumes nothing.
+use mathlib.Core.Path.{refl, sym}
+use Prim.Native.Nat.{ℕ}
+use lib.ListN.{length-replicate}
 use Rattle.listing.proofs.page.Goals as goal
 
 pub returns : goal.returns
