@@ -5,6 +5,7 @@ ghost use Rattle.compare.specs.Roomy.{Roomy};
 use crate::reading::read;
 use crate::sheet::put_reply;
 use cases::{Reply, answer, foreign_reply, rewrite_reply, write_reply};
+use std::io::Read;
 
 // The most bytes of a log, and of a bundle.
 const LIMIT: usize = 65536;
@@ -42,20 +43,18 @@ fn whole(head: &[u8]) -> usize
 
 // Reads the next case to the buffer's start and answers its length; 0 at the input's end and where it is no case of
 // ours.
-fn next_case(fd: i32, buf: &mut [u8]) -> usize
+fn next_case<R: Read>(input: &mut R, buf: &mut [u8]) -> usize
     requires { 131089 ≡ length buf.old }
     ensures { (result ≤ length buf.new) × (131089 ≡ length buf.new) }
 {
-    let got = io::read_full(fd, &mut buf[..17]);
-    if got != 17 {
+    if input.read_exact(&mut buf[..17]).is_err() {
         return 0;
     }
     let n = whole(buf);
     if n < 17 {
         return 0;
     }
-    let more = io::read_full(fd, &mut buf[17..n]);
-    if more != n - 17 {
+    if input.read_exact(&mut buf[17..n]).is_err() {
         return 0;
     }
     n
@@ -123,21 +122,21 @@ fn sheet() -> [u8; 4096]
     [0; 4096]
 }
 
-fn write_record(output: i32, case: &[u8], out: &mut [u8]) -> bool
+fn write_record<P: Print>(output: &P, case: &[u8], out: &mut [u8]) -> bool
     requires { 40 ≤ length out.old }
 {
     let used = read(out, case);
-    io::write_all(output, &out[..used])
+    output.write_all(&out[..used]).is_ok()
 }
 
 // Answers a case that asks for a record, from a sheet of its own; whether the reply was written.
-fn tell_record(output: i32, case: &[u8]) -> bool {
+fn tell_record<P: Print>(output: &P, case: &[u8]) -> bool {
     let mut space = sheet();
     write_record(output, case, &mut space)
 }
 
 // Answers a case; whether the reply was written.
-fn tell(output: i32, case: &[u8], out: &mut [u8]) -> bool
+fn tell<P: Print>(output: &P, case: &[u8], out: &mut [u8]) -> bool
     requires { 65576 ≡ length out.old }
     ensures { 65576 ≡ length out.new }
 {
@@ -148,11 +147,11 @@ fn tell(output: i32, case: &[u8], out: &mut [u8]) -> bool
         return tell_record(output, case);
     }
     let used = respond(case, out);
-    io::write_all(output, &out[..used])
+    output.write_all(&out[..used]).is_ok()
 }
 
 // Answers case after case, until the input ends: at most so many.
-pub fn serve(input: i32, output: i32, most: usize) {
+pub fn serve<R: Read, P: Print>(input: &mut R, output: &P, most: usize) {
     let mut space = room();
     let buf: &mut [u8] = &mut space;
     let mut spare = page();

@@ -19,20 +19,20 @@ fn stepped(step: RingStep) -> [u64; 5] {
 }
 
 // Answers the view with its length and its bytes; whether the reply was written.
-fn tell_view<'a>(output: i32, first: &'a [u8], second: &'a [u8], at: usize) -> bool {
+fn tell_view<'a, P: Print>(output: &P, first: &'a [u8], second: &'a [u8], at: usize) -> bool {
     let view = ring::object(first, second, Cursor { at });
     let mut reply = [0u8; 40];
     put_all(&mut reply, 0, &[10, view.len() as u64, 0, 0, 0]);
-    if !io::write_all(output, &reply) {
+    if output.write_all(&reply).is_err() {
         return false;
     }
-    io::write_all(output, view)
+    output.write_all(view).is_ok()
 }
 
 // Answers a question on the ring of a case, whose second part begins at a place, with the length of the scratch;
 // whether it is one of ours and the reply was written.
-pub fn tell_ring(
-    output: i32,
+pub fn tell_ring<P: Print>(
+    output: &P,
     question: u8,
     at: usize,
     case: &[u8],
@@ -56,5 +56,5 @@ pub fn tell_ring(
     }
     let step = ring::step(first, second, Cursor { at }, &mut out[40..40 + room]);
     put_all(out, 0, &stepped(step));
-    io::write_all(output, &out[..40 + room])
+    output.write_all(&out[..40 + room]).is_ok()
 }

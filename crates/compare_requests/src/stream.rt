@@ -5,6 +5,7 @@ use crate::lines::line;
 use crate::rings::tell_ring;
 use crate::told::tell_text;
 use crate::trays::tell_tray;
+use std::io::Read;
 
 // The most bytes of a part, and of a room.
 pub const LIMIT: usize = 4096;
@@ -30,12 +31,11 @@ pub fn put_all(out: &mut [u8], from: usize, values: &[u64])
 
 // Reads the next case to the buffer's start and answers its length; 0 at the input's end and where it is no case of
 // ours.
-fn next_case(fd: i32, buf: &mut [u8]) -> usize
+fn next_case<R: Read>(input: &mut R, buf: &mut [u8]) -> usize
     requires { 8209 ≡ length buf.old }
     ensures { (result ≤ length buf.new) × (8209 ≡ length buf.new) }
 {
-    let got = io::read_full(fd, &mut buf[..17]);
-    if got != 17 {
+    if input.read_exact(&mut buf[..17]).is_err() {
         return 0;
     }
     let first = fields::get32(buf, 1) as usize;
@@ -47,8 +47,7 @@ fn next_case(fd: i32, buf: &mut [u8]) -> usize
         return 0;
     }
     let more = first + second;
-    let came = io::read_full(fd, &mut buf[17..17 + more]);
-    if came != more {
+    if input.read_exact(&mut buf[17..17 + more]).is_err() {
         return 0;
     }
     17 + more
@@ -76,7 +75,7 @@ fn respond(question: u8, number: usize, first: &[u8], second: u32, out: &mut [u8
 }
 
 // Answers a case; whether it is one of ours and the reply was written.
-fn tell(output: i32, case: &[u8], out: &mut [u8]) -> bool
+fn tell<P: Print>(output: &P, case: &[u8], out: &mut [u8]) -> bool
     requires { 8209 ≡ length out.old }
     ensures { 8209 ≡ length out.new }
 {
@@ -106,11 +105,11 @@ fn tell(output: i32, case: &[u8], out: &mut [u8]) -> bool
     if used == 0 {
         return false;
     }
-    io::write_all(output, &out[..used])
+    output.write_all(&out[..used]).is_ok()
 }
 
 // Answers case after case, until the input ends: at most so many.
-pub fn serve(input: i32, output: i32, most: usize) {
+pub fn serve<R: Read, P: Print>(input: &mut R, output: &P, most: usize) {
     let mut cases = space();
     let buf: &mut [u8] = &mut cases;
     let mut replies = space();

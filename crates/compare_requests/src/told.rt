@@ -67,12 +67,12 @@ fn put_told(out: &mut [u8], told: Told)
 }
 
 // Answers a text; whether the reply was written.
-pub fn tell_text(output: i32, text: &[u8]) -> bool {
+pub fn tell_text<P: Print>(output: &P, text: &[u8]) -> bool {
     let r = asc::read_line(text);
     let answer = r.answer;
     let told = r.told;
     let mut sheet = [0u8; 232];
     put_answer(&mut sheet, answer);
     put_told(&mut sheet, told);
-    io::write_all(output, &sheet)
+    output.write_all(&sheet).is_ok()
 }

@@ -89,7 +89,13 @@ fn fill(first: &[u8], data: &[u8], out: &mut [u8]) -> [u64; 5] {
 }
 
 // Answers the tray of a case, whose second part begins at a place; whether it is one of ours and the reply was written.
-pub fn tell_tray(output: i32, room: usize, case: &[u8], part: usize, out: &mut [u8]) -> bool
+pub fn tell_tray<P: Print>(
+    output: &P,
+    room: usize,
+    case: &[u8],
+    part: usize,
+    out: &mut [u8],
+) -> bool
     requires { (17 ≤ part) × (part ≤ length case.now) × (8209 ≡ length out.old) }
     ensures { 8209 ≡ length out.new }
 {
@@ -101,5 +107,5 @@ pub fn tell_tray(output: i32, room: usize, case: &[u8], part: usize, out: &mut [
         return false;
     }
     put_all(out, 0, &reply);
-    io::write_all(output, &out[..40 + room])
+    output.write_all(&out[..40 + room]).is_ok()
 }

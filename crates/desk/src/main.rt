@@ -1,11 +1,14 @@
 // Reads the files `log` and `bundle` of its folder and prints the verdict on them.
 #![tactic(auto)]
-fn main() {
+
+use std::io;
+
+fn main(rt: HostRuntime) -> io::Result<()> {
     let mut log = input::buffer();
     let mut bundle = input::buffer();
-    let first = input::read_file(b"log", &mut log);
-    let second = input::read_file(b"bundle", &mut bundle);
+    let first = input::read_file(&rt, "log", &mut log);
+    let second = input::read_file(&rt, "bundle", &mut bundle);
     let mut line = [0u8; 64];
     let used = desk_text::judge(first, &log, second, &bundle, &mut line);
-    io::write_all(libc::STDOUT_FILENO, &line[..used]);
+    rt.write_all(&line[..used])
 }

@@ -3,6 +3,7 @@ ghost use Rattle.std.specs.Prelude.{◌≡◌, length};
 
 use crate::{samples, tell};
 use objects::Cursor;
+use std::io;
 
 // A CAN FD message with so many valid bytes: all 64 data bytes are kept, and the DLC says something else.
 fn message(valid_bytes: u8) -> can::FdMessage {
@@ -29,46 +30,47 @@ fn object() -> [u8; 120]
     log
 }
 
-pub fn reading() {
+pub fn reading(rt: &impl Print) -> io::Result<()> {
     let mut log = object();
-    tell::walk(b"a CAN FD message with 64 valid bytes: ", &log);
+    tell::walk(rt, b"a CAN FD message with 64 valid bytes: ", &log)?;
     log[46] = 65;
-    tell::walk(b"with 65: ", &log);
+    tell::walk(rt, b"with 65: ", &log)?;
     log[119] = 1;
-    tell::walk(b"and its last byte, which is reserved, is 1: ", &log);
+    tell::walk(rt, b"and its last byte, which is reserved, is 1: ", &log)?;
     log[47] = 1;
-    tell::walk(b"and byte 47: ", &log);
+    tell::walk(rt, b"and byte 47: ", &log)
 }
 
-pub fn sizes() {
+pub fn sizes(rt: &impl Print) -> io::Result<()> {
     let mut log = object();
     log[8] = 116;
     tell::walk_first(
+        rt,
         b"a CAN FD message of 116 bytes, as python-can has it: ",
         &log,
         116,
-    );
+    )?;
     let read = can_records::read_message(&log, Cursor::new());
     let told = read.told;
-    tell::read(b"read as a CAN message: ", told);
+    tell::read(rt, b"read as a CAN message: ", told)?;
     log[8] = 120;
     let read = can_records::read_message(&log, Cursor::new());
     let told = read.told;
-    tell::read(b"the same with 120 bytes: ", told);
+    tell::read(rt, b"the same with 120 bytes: ", told)
 }
 
-pub fn writing() {
+pub fn writing(rt: &impl Print) -> io::Result<()> {
     let mut out = [0u8; 120];
     let some = can_records::write_fd_message(message(64), &mut out);
-    tell::write(b"writing 64 valid bytes: ", some);
+    tell::write(rt, b"writing 64 valid bytes: ", some)?;
     let none = can_records::write_fd_message(message(65), &mut out);
-    tell::write(b"writing 65 valid bytes: ", none);
+    tell::write(rt, b"writing 65 valid bytes: ", none)?;
     let mut short = [0u8; 119];
     let none = can_records::write_fd_message(message(64), &mut short);
-    tell::write(b"writing 64 valid bytes into 119 bytes: ", none);
+    tell::write(rt, b"writing 64 valid bytes into 119 bytes: ", none)
 }
 
-pub fn message_two() {
+pub fn message_two(rt: &impl Print) -> io::Result<()> {
     let message = can::Message {
         header: samples::second(),
         channel: 1,
@@ -84,8 +86,12 @@ pub fn message_two() {
     };
     let mut log = [0u8; 64];
     let some = can_records::write_message_two(record, &mut log);
-    tell::write(b"writing a CAN message 2 under the second header: ", some);
-    tell::step(b"reading it: ", &log, 0);
+    tell::write(
+        rt,
+        b"writing a CAN message 2 under the second header: ",
+        some,
+    )?;
+    tell::step(rt, b"reading it: ", &log, 0)?;
     log[61] = 1;
-    tell::walk(b"its first reserved byte is 1: ", &log);
+    tell::walk(rt, b"its first reserved byte is 1: ", &log)
 }

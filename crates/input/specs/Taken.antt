@@ -1,5 +1,5 @@
--- What comes of reading an input, by what the reads answer one after the other. Which answers those are, and which
--- bytes they leave in the buffer, the kit's contract of `libc::read` does not say.
+-- What comes of reading an input, by what the reads answer one after the other: `Ok` of a number counts as that number,
+-- and `Err` as one below 0. Which answers those are, and which bytes they leave in the buffer, is not said here.
 use Rattle.std.specs.Prelude.{ℕ, zero, suc, ◌+◌, ◌-◌, ◌≤◌, min, ◌≡◌, ◌⊎◌, List, [], ◌∷◌, ℤ, pos, negsuc, length}
 use Rattle.input.specs.declared.Input.{Input}
 use Rattle.input.specs.declared.Input.TheVariants.{Bytes, Failed}

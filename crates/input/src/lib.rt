@@ -1,7 +1,12 @@
 // Reading an input to its end.
 #![tactic(auto)]
+
 ghost use Rattle.input.specs.Zeros.{Zeros};
 ghost use Rattle.input.specs.Taken.{Taken, TakenFile};
+
+use std::fs;
+use std::fs::Files;
+use std::io::Read;
 
 // How many bytes came before the input ended or the buffer was full; or a read that failed.
 #[derive(Drop)]
@@ -23,16 +28,14 @@ pub fn buffer() -> [u8; 65537]
 }
 
 // Reads until the input ends, the buffer is full or a read fails. Pieces may be small.
-pub fn read_all(fd: i32, buf: &mut [u8]) -> Input
+pub fn read_all<R: Read>(from: &mut R, buf: &mut [u8]) -> Input
     ensures { Taken result buf.old buf.new }
 {
     let mut n: usize = 0;
     while n < buf.len() {
-        let got = libc::read(fd, &mut buf[n..]);
-        if got < 0 {
+        let Ok(more) = from.read(&mut buf[n..]) else {
             return Input::Failed;
-        }
-        let more = io::count(got, &buf[n..]);
+        };
         if more == 0 {
             return Input::Bytes(n);
         }
@@ -42,14 +45,11 @@ pub fn read_all(fd: i32, buf: &mut [u8]) -> Input
 }
 
 // Reads a file to its end; failed where it can't be opened or read.
-pub fn read_file(name: &[u8], buf: &mut [u8]) -> Input
+pub fn read_file<F: Files>(files: &F, name: &str, buf: &mut [u8]) -> Input
     ensures { TakenFile result buf.old buf.new }
 {
-    let fd = os::open_read(name);
-    if fd < 0 {
+    let Ok(mut file) = fs::open(files, name) else {
         return Input::Failed;
-    }
-    let got = read_all(fd, buf);
-    libc::close(fd);
-    got
+    };
+    read_all(&mut file, buf)
 }

@@ -1,9 +1,12 @@
 // Reads a log from standard input and prints its objects.
 #![tactic(auto)]
-fn main() {
+
+use std::io;
+
+fn main(rt: HostRuntime) -> io::Result<()> {
     let mut input = input::buffer();
-    let got = input::read_all(libc::STDIN_FILENO, &mut input);
+    let got = input::read_all(&mut rt.stdin(), &mut input);
     let mut page = listing::page();
     let used = listing::report(got, &input, &mut page);
-    io::write_all(libc::STDOUT_FILENO, &page[..used]);
+    rt.write_all(&page[..used])
 }

@@ -1,5 +1,6 @@
 // What the lister prints, made in a buffer, and the lines that the desk program prints.
 #![tactic(auto)]
+
 mod words;
 
 ghost use Rattle.std.specs.Prelude.{◌+◌, ◌*◌, ◌≤◌, length};

@@ -1,5 +1,6 @@
 // An object's bytes written as its record, foreign objects written, and a log read and written again.
 #![tactic(auto)]
+
 mod foreign;
 mod object;
 mod whole_log;

@@ -1,24 +1,27 @@
 // Runs document 01's examples of slips, and of writing frames and foreign objects, and W-207's of trays, and prints what
 // came out: a line an example.
 #![tactic(auto)]
+
 mod samples;
 mod slip;
 mod tell;
 mod trays;
 mod writing;
 
-fn main() {
-    slip::shapes();
-    slip::desks();
-    slip::ninth();
-    slip::troubles();
-    slip::headers();
-    slip::damage();
-    writing::frames();
-    writing::foreigners();
-    trays::rooms();
-    trays::second_rooms();
-    trays::apart();
-    trays::orders();
-    trays::nothing();
+use std::io;
+
+fn main(rt: HostRuntime) -> io::Result<()> {
+    slip::shapes(&rt)?;
+    slip::desks(&rt)?;
+    slip::ninth(&rt)?;
+    slip::troubles(&rt)?;
+    slip::headers(&rt)?;
+    slip::damage(&rt)?;
+    writing::frames(&rt)?;
+    writing::foreigners(&rt)?;
+    trays::rooms(&rt)?;
+    trays::second_rooms(&rt)?;
+    trays::apart(&rt)?;
+    trays::orders(&rt)?;
+    trays::nothing(&rt)
 }

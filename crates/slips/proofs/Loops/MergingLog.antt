@@ -20,7 +20,6 @@ use Rattle.slips.specs.Check.{answer_of}
 use Rattle.slips.specs.Inner.Places.{AllPlaced, slips_at}
 use Rattle.slips.specs.Inner.Merge.{past, the_end, merged_of, settle, merge_of}
 use Rattle.slips.specs.Inner.Pass.{walk_on_of, at_end_of, merge_log_of}
-use Rattle.slips.proofs.Loops.Beside.{hits, low}
 use Rattle.slips.proofs.Loops.Standing.{Turned, turned}
 
 -- the rest of a walk, with a trouble in hand

@@ -11,7 +11,7 @@ use Rattle.slips.specs.declared.bundle.Place.{Place}
 use Rattle.slips.specs.declared.merge.Merged.{Merged}
 use Rattle.slips.specs.Cut.{Slip, length_in, desk_in, slip_in, Slips, cut_from}
 use Rattle.slips.specs.Bundle.{slip_length}
-use Rattle.slips.specs.Right.{entries_on, same}
+use Rattle.slips.specs.Right.{entries_on}
 use Rattle.slips.specs.Inner.Places.{places_of, nowhere, AllPlaced, slip_at, slips_at}
 use Rattle.slips.specs.Inner.Merge.{compare_at, move_place, moved_of, hits_of, low_of, merged_of}
 use Rattle.slips.proofs.Format.EntryBytes.{entries_many}

@@ -1,7 +1,5 @@
 -- `slips::rises` meets its contract: before each turn the entries that are left decide (`Climbing`). Assumes nothing.
-use Prim.Native.Nat.{◌-◌}
-use borrow.Author.Rules.{rules}
-use Rattle.slips.proofs.Loops.Climbing.{Climbing, climbing_none, climb_done, climb_falls, climb_more}
+use Rattle.slips.proofs.Loops.Climbing.{climbing_none, climb_done, climb_falls, climb_more}
 use Rattle.slips.proofs.bundle.rises.Goals as goal
 
 pub loop-i-init : goal.loop-i-init

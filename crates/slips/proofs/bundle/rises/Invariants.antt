@@ -1,7 +1,6 @@
 -- `slips::rises` meets its contract: before each turn the entries that are left decide (`Climbing`). Assumes nothing.
 use Prim.Native.Nat.{◌-◌}
-use borrow.Author.Rules.{rules}
-use Rattle.slips.proofs.Loops.Climbing.{Climbing, climbing_none, climb_done, climb_falls, climb_more}
+use Rattle.slips.proofs.Loops.Climbing.{Climbing}
 use Rattle.slips.proofs.bundle.rises.Given as goal
 
 abbrev pub invariant-loop-i : goal.invariant-loop-i

@@ -1,5 +1,4 @@
 -- `slips::shape_ok` meets its contract: each way out is one test of `shape_ok` more. Assumes nothing.
-use borrow.Author.Rules.{rules}
 use borrow.Author.Tests.{le-leb, lt-leb, eq-eqb, ne_eqb}
 use Rattle.slips.specs.Cut.{shape_ok}
 use Rattle.slips.proofs.bundle.shape_ok.Goals as goal

@@ -1,6 +1,5 @@
 -- `slips::compare` meets its contract: where the slip has an entry, the tests that led to a `return` say what it is to
 -- the object; each way out is one law of proofs/Loops/Comparing. Assumes nothing.
-use borrow.Author.Rules.{rules}
 use Rattle.slips.proofs.Loops.Comparing.{compare_none, compare_above, compare_start, compare_size, compare_kind, compare_hit}
 use Rattle.slips.proofs.merge.compare.Goals as goal
 

@@ -1,5 +1,4 @@
 -- `slips::at_end` meets its contract: what the last turn of the merge leaves decides. Assumes nothing.
-use borrow.Author.Rules.{rules}
 use Rattle.slips.proofs.Loops.MergingLog.{at_end_left, at_end_good}
 use Rattle.slips.proofs.pass.at_end.Goals as goal
 

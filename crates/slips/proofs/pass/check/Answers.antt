@@ -1,7 +1,6 @@
 -- `slips::check` meets its contract: the bundle's reading and the one pass together are `check_of`
 -- (proofs/Loops/Checking). Assumes nothing.
 use mathlib.Core.Path.{◌∙◌}
-use borrow.Author.Rules.{rules}
 use Rattle.slips.proofs.Loops.Checking.{long_refused, read_refused, read_placed, read_merged}
 use Rattle.slips.proofs.pass.check.Goals as goal
 

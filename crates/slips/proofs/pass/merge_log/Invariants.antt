@@ -1,13 +1,8 @@
 -- `slips::merge_log` meets its contract: before each turn what is left of the walk and of the merge decides
 -- (`MergingLog`); each way out is one law of proofs/Loops/MergingLog. Assumes nothing.
-use mathlib.Core.Path.{sym, ap, ◌∙◌}
 use Prim.Native.Nat.{◌-◌}
-use borrow.Author.Rules.{rules}
 use lib.ListN.{length}
-use Rattle.objects.specs.declared.Step.{Step}
-use Rattle.objects.proofs.Answers.{left}
 use Rattle.slips.proofs.Loops.MergingLog as merging
-use borrow.Enum.Refused.{opened}
 use Rattle.slips.proofs.pass.merge_log.Given as goal
 
 abbrev pub invariant-loop-start : goal.invariant-loop-start

@@ -1,10 +1,6 @@
 -- `slips::walk_on` meets its contract: what is left of the walk tells what the whole tells. Assumes nothing.
-use mathlib.Core.Path.{◌≡◌, refl, sym, ap, ◌∙◌}
-use Prim.Native.Nat.{◌-◌}
-use borrow.Author.Rules.{rules}
-use lib.ListN.{length}
+use mathlib.Core.Path.{refl, sym, ap, ◌∙◌}
 use Rattle.objects.specs.declared.Step.{Step}
-use Rattle.slips.specs.Inner.Pass.{walk_on_of}
 use Rattle.objects.proofs.Naming.{walking_less}
 use Rattle.objects.proofs.Answers.{left, objected}
 use Rattle.slips.proofs.Loops.MergingLog.{walk_on_done, walk_on_refused, walk_on_more}

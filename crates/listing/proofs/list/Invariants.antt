@@ -1,0 +1,12 @@
+-- `listing::list` meets its contract: before each turn the lines so far stand in the buffer (`Listing`), and each way
+-- out of the loop is one of its laws. Assumes nothing.
+use Prim.Native.Nat.{◌-◌}
+use lib.ListN.{length}
+use Rattle.listing.proofs.Listings.{Listing}
+use Rattle.listing.proofs.list.Given as goal
+
+abbrev pub invariant-loop-start : goal.invariant-loop-start
+invariant-loop-start l = Listing l.log l.initial.out l.out l.c.at l.n l.used
+
+abbrev pub decreases-loop-start : goal.decreases-loop-start
+decreases-loop-start l = length l.log - l.c.at
