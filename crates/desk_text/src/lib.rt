@@ -1,5 +1,6 @@
 // What the desk program prints for a log and a bundle, made in a buffer.
 #![tactic(auto)]
+
 mod outside;
 
 ghost use Rattle.std.specs.Prelude.{◌≤◌, length};

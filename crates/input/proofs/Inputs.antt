@@ -1,16 +1,12 @@
 -- What came of reading, taken apart as `let .. else` leaves it. Assumes nothing.
 use Prim.Native.Nat.{ℕ, ◌≤◌}
-use mathlib.Core.Path.{◌≡◌, refl, subst, sym}
-use mathlib.Core.List.{List, [], ◌∷◌}
-use native.Mathlib.Omega.{arith}
+use mathlib.Core.Path.{◌≡◌, subst, sym}
+use mathlib.Core.List.{List}
 use lib.ListN.{length}
 use lib.Seq.{length-take-le}
-use package.types.Run.{OneOf}
-use denote.Enum.Declared.{tag_of}
 use Rattle.std.specs.Counts.{IsPrefixLen}
-use Rattle.input.specs.contracts.Input.{the_type}
 use Rattle.input.specs.declared.Input.{Input}
-use Rattle.input.specs.declared.Input.TheVariants.{Bytes, Failed}
+use Rattle.input.specs.declared.Input.TheVariants.{Bytes}
 use Rattle.input.specs.Taken.{Within}
 
 -- so many bytes stand at the buffer's start
@@ -18,7 +14,3 @@ pub taken : {a : Input} {n : ℕ} (buf : List ℕ) → Within a buf → a ≡ By
 taken {n = n} buf t e =
     let h : n ≤ length buf = subst (λ (x : Input). Within x buf) e t in
     (h, sym (length-take-le n buf h))
-
-pub failed : (a : Input) → OneOf (1 ∷ []) (tag_of the_type a) → a ≡ Failed
-failed (Bytes n) q = absurd (omega arith)
-failed Failed q = refl

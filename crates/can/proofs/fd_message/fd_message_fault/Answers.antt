@@ -1,7 +1,6 @@
 -- `can::fd_message_fault` meets its contract: test by test, as the format has them. Assumes nothing.
 use Prim.Native.Nat.{ℕ}
 use mathlib.Core.Path.{◌≡◌, refl, ap, ap₂, ◌∙◌}
-use borrow.Author.Rules.{rules}
 use lib.Dec.{leb}
 use Rattle.fields.specs.Numbers.{part, all_zero}
 use Rattle.headers.specs.HeadTests.{first}

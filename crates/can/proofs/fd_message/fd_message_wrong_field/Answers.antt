@@ -2,7 +2,6 @@
 use Prim.Native.Nat.{ℕ}
 use mathlib.Core.Path.{ap, ◌∙◌}
 use mathlib.Core.Bool.{Bool, cond}
-use borrow.Author.Rules.{rules}
 use lib.Dec.{leb}
 use Rattle.can.specs.Fields.{most_valid}
 use Rattle.can.proofs.fd_message.fd_message_wrong_field.Goals as goal

@@ -1,5 +1,4 @@
 -- `can::get_fd_message` meets its contract, field by field. Assumes nothing.
-use borrow.Author.Rules.{rules}
 use Rattle.can.specs.Fields.{fd_message_of}
 use Rattle.can.proofs.fd_message.get_fd_message.Goals as goal
 

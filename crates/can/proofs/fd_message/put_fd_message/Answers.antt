@@ -1,5 +1,4 @@
 -- `can::put_fd_message` meets its contract: one part behind the other. Assumes nothing.
-use borrow.Author.Rules.{rules}
 use Rattle.fields.proofs.Puts.{done, put, chunk, first_chunk, written}
 use Rattle.can.specs.Tables.{front_slots, timing_slots, fd_message_slots}
 use Rattle.can.proofs.Fronts.{front_written}

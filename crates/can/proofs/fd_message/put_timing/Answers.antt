@@ -1,5 +1,4 @@
 -- `can::put_timing` meets its contract: one field behind the other. Assumes nothing.
-use borrow.Author.Rules.{rules}
 use Rattle.fields.proofs.Puts.{done, put, puts}
 use Rattle.can.specs.Tables.{timing_slots}
 use Rattle.can.proofs.fd_message.put_timing.Goals as goal

@@ -1,5 +1,4 @@
 -- `can::get_front` meets its contract, field by field. Assumes nothing.
-use borrow.Author.Rules.{rules}
 use Rattle.can.proofs.front.get_front.Goals as goal
 
 pub returns : goal.returns

@@ -1,5 +1,4 @@
 -- `can::put_front` meets its contract: one field behind the other. Assumes nothing.
-use borrow.Author.Rules.{rules}
 use Rattle.fields.proofs.Puts.{written, slots}
 use Rattle.can.proofs.front.put_front.Goals as goal
 

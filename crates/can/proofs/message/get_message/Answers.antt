@@ -1,6 +1,4 @@
 -- `can::get_message` meets its contract, field by field of the body. Assumes nothing.
-use mathlib.Core.Path.{ap}
-use borrow.Author.Rules.{rules}
 use Rattle.can.specs.Fields.{message_of}
 use Rattle.can.proofs.message.get_message.Goals as goal
 

@@ -1,5 +1,4 @@
 -- `can::put_message` meets its contract: the front, and the data bytes behind it. Assumes nothing.
-use borrow.Author.Rules.{rules}
 use Rattle.fields.proofs.Puts.{done, put, first_chunk, written}
 use Rattle.can.specs.Tables.{front_slots, message_slots}
 use Rattle.can.proofs.Fronts.{front_written}

@@ -1,5 +1,4 @@
 -- `can::get_message_two` meets its contract: type 1's fields, and its own. Assumes nothing.
-use borrow.Author.Rules.{rules}
 use Rattle.can.specs.Fields.{message_two_of}
 use Rattle.can.proofs.message_two.get_message_two.Goals as goal
 

@@ -1,7 +1,6 @@
 -- `can::message_two_fault` meets its contract: the code reads like the definition. Assumes nothing.
 use mathlib.Core.Path.{ap, ◌∙◌}
 use mathlib.Core.Bool.{Bool}
-use borrow.Author.Rules.{rules}
 use Rattle.headers.specs.HeadTests.{first}
 use Rattle.headers.proofs.BodyTests.{in_turn_is}
 use Rattle.can.specs.Fields.{message_two_format}

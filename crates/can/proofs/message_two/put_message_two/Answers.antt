@@ -1,5 +1,4 @@
 -- `can::put_message_two` meets its contract: type 1's fields, and its own behind them. Assumes nothing.
-use borrow.Author.Rules.{rules}
 use Rattle.fields.proofs.Puts.{done, put, first_chunk, written}
 use Rattle.can.specs.Tables.{data_slots, message_two_slots}
 use Rattle.can.proofs.Fronts.{message_written}

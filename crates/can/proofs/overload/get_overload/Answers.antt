@@ -1,5 +1,4 @@
 -- `can::get_overload` meets its contract, field by field of the body. Assumes nothing.
-use borrow.Author.Rules.{rules}
 use Rattle.can.specs.Fields.{overload_of}
 use Rattle.can.proofs.overload.get_overload.Goals as goal
 

@@ -1,5 +1,4 @@
 -- `can::put_overload` meets its contract: one field behind the other. Assumes nothing.
-use borrow.Author.Rules.{rules}
 use Rattle.fields.proofs.Puts.{written, slots}
 use Rattle.can.specs.Tables.{overload_slots}
 use Rattle.can.proofs.overload.put_overload.Goals as goal

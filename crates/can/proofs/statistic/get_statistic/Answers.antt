@@ -1,5 +1,4 @@
 -- `can::get_statistic` meets its contract, field by field of the body. Assumes nothing.
-use borrow.Author.Rules.{rules}
 use Rattle.can.specs.Fields.{statistic_of}
 use Rattle.can.proofs.statistic.get_statistic.Goals as goal
 

@@ -1,5 +1,4 @@
 -- `can::put_counters` meets its contract: one field behind the other. Assumes nothing.
-use borrow.Author.Rules.{rules}
 use Rattle.fields.proofs.Puts.{done, put, first, written}
 use Rattle.can.specs.Tables.{counter_slots}
 use Rattle.can.proofs.statistic.put_counters.Goals as goal

@@ -3,7 +3,6 @@
 use mathlib.Core.Path.{refl, sym, ◌∙◌}
 use mathlib.Core.Bool.{and-true}
 use native.Mathlib.Omega.{arith}
-use borrow.Author.Rules.{rules}
 use Rattle.headers.specs.Types.{fd_message}
 use Rattle.headers.proofs.TypeKinds as list
 use Rattle.can.proofs.Laws.{fd_message_length}

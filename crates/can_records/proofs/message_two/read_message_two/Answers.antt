@@ -1,5 +1,4 @@
 -- `can_records::read_message_two` meets its contract: the record of what a look cut out of the log. Assumes nothing.
-use borrow.Author.Rules.{rules}
 use Rattle.headers.specs.Types.{message_two}
 use Rattle.outcomes.proofs.Looks.{look_within}
 use Rattle.outcomes.proofs.Reading.{reads}

@@ -2,7 +2,6 @@
 -- is valid. Assumes nothing.
 use mathlib.Core.Path.{refl, sym}
 use native.Mathlib.Omega.{arith}
-use borrow.Author.Rules.{rules}
 use Rattle.headers.specs.Types.{message_two}
 use Rattle.headers.proofs.TypeKinds as list
 use Rattle.can.proofs.Laws.{message_two_length}

@@ -1,7 +1,5 @@
 -- `can_records::statistic_in` meets its contract: the object's record, or the record of zeros. Assumes nothing.
-use borrow.Author.Rules.{rules}
 use Rattle.headers.specs.Types.{statistic}
-use Rattle.headers.proofs.Bodies.{header_held, body_held}
 use Rattle.outcomes.proofs.Reading.{in_long, in_short}
 use mathlib.Core.Bool.{not}
 use mathlib.Core.Path.{ap}

@@ -2,7 +2,6 @@
 -- valid. Assumes nothing.
 use mathlib.Core.Path.{refl, sym}
 use native.Mathlib.Omega.{arith}
-use borrow.Author.Rules.{rules}
 use Rattle.headers.specs.Types.{statistic}
 use Rattle.headers.proofs.TypeKinds as list
 use Rattle.can.proofs.Laws.{statistic_length}

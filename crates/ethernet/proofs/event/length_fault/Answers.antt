@@ -1,6 +1,5 @@
 -- `ethernet::length_fault` meets its contract: the rules of an error, one after the other. Assumes nothing.
 use mathlib.Core.Path.{◌∙◌}
-use borrow.Author.Rules.{rules}
 use Rattle.headers.specs.HeadTests.{first}
 use Rattle.headers.specs.Form.{body_fault}
 use Rattle.headers.proofs.BodyTests.{in_turn_is}

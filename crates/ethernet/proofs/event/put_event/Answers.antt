@@ -1,5 +1,4 @@
 -- `ethernet::put_event` meets its contract: its four parts, one behind the other. Assumes nothing.
-use borrow.Author.Rules.{rules}
 use Rattle.fields.proofs.Puts.{put, chunk, last, first_chunk, written}
 use Rattle.ethernet.specs.Tables.{origin_slots, transmission_slots, event_slots}
 use Rattle.ethernet.proofs.event.put_event.Goals as goal

@@ -1,5 +1,4 @@
 -- `ethernet::put_transmission` meets its contract: one field behind the other. Assumes nothing.
-use borrow.Author.Rules.{rules}
 use Rattle.fields.proofs.Puts.{written, slots}
 use Rattle.ethernet.specs.Tables.{transmission_slots}
 use Rattle.ethernet.proofs.event.put_transmission.Goals as goal

@@ -1,6 +1,5 @@
 -- `ethernet::wrong_length` meets its contract: the two rules, one after the other. Assumes nothing.
 use mathlib.Core.Path.{◌∙◌}
-use borrow.Author.Rules.{rules}
 use Rattle.ethernet.proofs.event.wrong_length.Goals as goal
 
 pub returns : goal.returns

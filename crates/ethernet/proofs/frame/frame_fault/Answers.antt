@@ -1,7 +1,6 @@
 -- `ethernet::frame_fault` meets its contract: the code reads like the definition. Assumes nothing.
 use mathlib.Core.Path.{sym, ap₂, ◌∙◌}
 use mathlib.Core.Bool.{and-true}
-use borrow.Author.Rules.{rules}
 use Rattle.headers.specs.HeadTests.{first}
 use Rattle.headers.specs.Form.{body_fault}
 use Rattle.ethernet.proofs.frame.frame_fault.Goals as goal

@@ -1,5 +1,4 @@
 -- `ethernet::frame_view` meets its contract: it is what stands behind the structure length. Assumes nothing.
-use borrow.Author.Rules.{rules}
 use Rattle.fields.proofs.Parts.{tail}
 use Rattle.ethernet.specs.Fields.{structure_length}
 use Rattle.ethernet.proofs.frame.frame_view.Goals as goal

@@ -1,5 +1,4 @@
 -- `ethernet::get_frame` meets its contract, field by field of the body. Assumes nothing.
-use borrow.Author.Rules.{rules}
 use Rattle.ethernet.specs.Fields.{frame_of}
 use Rattle.ethernet.proofs.frame.get_frame.Goals as goal
 

@@ -1,5 +1,4 @@
 -- `ethernet::put_frame` meets its contract: the event with zeros at 28. Assumes nothing.
-use borrow.Author.Rules.{rules}
 use Rattle.fields.specs.Digits.{le}
 use Rattle.fields.specs.Slots.{bytes_of}
 use Rattle.ethernet.specs.Tables.{origin_slots, transmission_slots, event_slots, frame_slots}

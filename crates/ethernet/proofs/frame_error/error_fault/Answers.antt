@@ -1,5 +1,4 @@
 -- `ethernet::error_fault` meets its contract: the two lengths have all the rules. Assumes nothing.
-use borrow.Author.Rules.{rules}
 use Rattle.headers.specs.HeadTests.{first}
 use Rattle.headers.specs.Form.{body_fault}
 use Rattle.ethernet.proofs.frame_error.error_fault.Goals as goal

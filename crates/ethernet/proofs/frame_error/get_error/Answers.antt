@@ -1,5 +1,4 @@
 -- `ethernet::get_error` meets its contract: a frame and its code. Assumes nothing.
-use borrow.Author.Rules.{rules}
 use Rattle.ethernet.specs.Fields.{error_of}
 use Rattle.ethernet.proofs.frame_error.get_error.Goals as goal
 

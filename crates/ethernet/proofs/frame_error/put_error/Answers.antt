@@ -1,5 +1,4 @@
 -- `ethernet::put_error` meets its contract: the event with the code at 28. Assumes nothing.
-use borrow.Author.Rules.{rules}
 use Rattle.fields.specs.Slots.{bytes_of}
 use Rattle.ethernet.specs.Tables.{origin_slots, transmission_slots, event_slots, error_slots}
 use Rattle.ethernet.proofs.frame_error.put_error.Goals as goal

@@ -1,5 +1,4 @@
 -- `ethernet::get_status` meets its contract, field by field of the body. Assumes nothing.
-use borrow.Author.Rules.{rules}
 use Rattle.ethernet.specs.Fields.{status_of}
 use Rattle.ethernet.proofs.status.get_status.Goals as goal
 

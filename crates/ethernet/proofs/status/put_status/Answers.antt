@@ -1,7 +1,6 @@
 -- `ethernet::put_status` meets its contract: one field behind the other, the eight bytes as an array. Assumes nothing.
 use mathlib.Core.Path.{◌≡◌, refl}
 use mathlib.Core.List.{[], ◌∷◌}
-use borrow.Author.Rules.{rules}
 use Rattle.fields.specs.Digits.{le, array}
 use Rattle.fields.specs.Slots.{bytes_of}
 use Rattle.fields.proofs.Puts.{done, put, chunk, first, written}

@@ -2,7 +2,6 @@
 -- structure. Assumes nothing.
 use mathlib.Core.Path.{sym, ap, ◌∙◌}
 use lib.ListN.{drop}
-use borrow.Author.Rules.{rules}
 use Rattle.headers.proofs.Bodies.{header_held, body_held, lacking, none_behind}
 use Rattle.ethernet.specs.Fields.{structure_length}
 use mathlib.Core.Bool.{not}

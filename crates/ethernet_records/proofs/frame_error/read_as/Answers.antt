@@ -1,6 +1,5 @@
 -- `ethernet_records::frame_error::read_as` meets its contract: the record of what a look cut out of the log; of the two
 -- types it is the same. Assumes nothing.
-use borrow.Author.Rules.{rules}
 use Rattle.headers.specs.Types.{ethernet_error, forwarded_error}
 use Rattle.outcomes.specs.Reads.{record_in}
 use Rattle.outcomes.proofs.Looks.{look_within}

@@ -5,7 +5,6 @@ use mathlib.Core.Logic.{⊎_elim}
 use Prim.Native.Nat.{◌≤◌}
 use native.Mathlib.Omega.{arith}
 use lib.ListN.{length}
-use borrow.Author.Rules.{rules}
 use borrow.Author.Tests.{leb-true}
 use Rattle.headers.specs.Types.{ethernet_error, forwarded_error}
 use Rattle.headers.proofs.TypeKinds as list

@@ -1,7 +1,6 @@
 -- `ethernet_records::write_error` meets its contract: it is `write_as` for its number. Assumes nothing.
 use mathlib.Core.Path.{refl}
 use mathlib.Core.Logic.{inl}
-use borrow.Author.Rules.{rules}
 use Rattle.ethernet_records.proofs.frame_error.write_error.Goals as goal
 
 pub write_as-requires : goal.write_as-requires

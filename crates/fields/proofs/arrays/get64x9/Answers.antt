@@ -1,11 +1,8 @@
 -- `fields::get64x9` meets its contract: after i turns the first i numbers are read. Assumes nothing.
-use mathlib.Core.Path.{◌≡◌, refl, ◌∙◌}
-use mathlib.Core.List.{◌++◌}
-use Prim.Native.Nat.{◌-◌, ◌≤◌}
+use mathlib.Core.Path.{refl, ◌∙◌}
 use native.Mathlib.Nat.{le_refl}
 use native.Mathlib.Omega.{arith}
 use borrow.Author.Rules.{rules}
-use lib.ListN.{length, drop}
 use Rattle.fields.specs.Numbers.{nums}
 use Rattle.fields.proofs.Elements.{next_read, all_read}
 use Rattle.fields.proofs.arrays.get64x9.Goals as goal

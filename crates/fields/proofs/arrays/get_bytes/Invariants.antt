@@ -1,14 +1,10 @@
 -- `fields::get_bytes` meets its contract: after i turns the first i bytes are read and the others as they came. Assumes
 -- nothing.
-use mathlib.Core.Path.{◌≡◌, refl, ◌∙◌}
+use mathlib.Core.Path.{◌≡◌}
 use mathlib.Core.List.{◌++◌}
 use Prim.Native.Nat.{◌-◌, ◌≤◌}
-use native.Mathlib.Nat.{one-mul, le_refl}
-use native.Mathlib.Omega.{arith}
-use borrow.Author.Rules.{rules}
 use lib.ListN.{length, drop}
 use Rattle.fields.specs.Numbers.{nums}
-use Rattle.fields.proofs.Elements.{next_read, all_read}
 use Rattle.fields.proofs.arrays.get_bytes.Given as goal
 
 abbrev pub invariant-loop-i : goal.invariant-loop-i

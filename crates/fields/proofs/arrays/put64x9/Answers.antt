@@ -1,11 +1,8 @@
 -- `fields::put64x9` meets its contract: after i turns the first i numbers are written. Assumes nothing.
 use mathlib.Core.Path.{◌≡◌, refl}
-use Prim.Native.Nat.{◌-◌, ◌≤◌}
 use native.Mathlib.Omega.{arith}
 use borrow.Author.Rules.{rules}
-use lib.ListN.{length}
 use Rattle.fields.specs.Digits.{array}
-use Rattle.fields.specs.Written.{Wrote}
 use Rattle.fields.proofs.Elements.{one_written}
 use Rattle.fields.proofs.arrays.put64x9.Goals as goal
 

@@ -1,6 +1,5 @@
 -- `fields::put_array` meets its contract: bytes are their own bytes as an array. Assumes nothing.
 use mathlib.Core.Path.{refl}
-use borrow.Author.Rules.{rules}
 use lib.ListN.{length}
 use Rattle.fields.proofs.Elements.{array_bytes}
 use Rattle.fields.proofs.arrays.put_array.Goals as goal

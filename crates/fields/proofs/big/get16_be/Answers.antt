@@ -1,7 +1,6 @@
 -- `fields::get16_be` meets its contract: it joins two halves. Assumes nothing.
 use mathlib.Core.Path.{◌∙◌}
 use Prim.Native.Nat.{◌+◌}
-use borrow.Author.Rules.{rules}
 use Rattle.fields.proofs.Numbers.{big_one}
 use Rattle.fields.proofs.Halves.{get_both_be}
 use Rattle.fields.proofs.big.get16_be.Goals as goal

@@ -1,5 +1,4 @@
 -- `fields::get32_be` meets its contract: it joins two halves. Assumes nothing.
-use borrow.Author.Rules.{rules}
 use Rattle.fields.proofs.Halves.{get_both_be}
 use Rattle.fields.proofs.big.get32_be.Goals as goal
 

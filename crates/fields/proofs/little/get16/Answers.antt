@@ -1,5 +1,4 @@
 -- `fields::get16` meets its contract: it joins two halves. Assumes nothing.
-use borrow.Author.Rules.{rules}
 use Rattle.fields.proofs.Halves.{get_both}
 use Rattle.fields.proofs.little.get16.Goals as goal
 

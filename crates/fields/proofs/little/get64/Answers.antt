@@ -1,6 +1,5 @@
 -- `fields::get64` meets its contract: it joins two halves. Assumes nothing.
 use mathlib.Core.Path.{◌∙◌}
-use borrow.Author.Rules.{rules}
 use Rattle.fields.proofs.Halves.{get_both}
 use Rattle.fields.proofs.little.get64.Goals as goal
 

@@ -1,7 +1,6 @@
 -- `fields::get8` meets its contract: a field of one byte is the byte. Assumes nothing.
 use mathlib.Core.Path.{sym}
 use native.Mathlib.Omega.{arith}
-use borrow.Author.Rules.{rules}
 use Rattle.fields.proofs.Numbers.{num_one}
 use Rattle.fields.proofs.little.get8.Goals as goal
 

@@ -1,5 +1,4 @@
 -- `fields::put64` meets its contract: two writes side by side are one. Assumes nothing.
-use borrow.Author.Rules.{rules}
 use Rattle.fields.proofs.Halves.{put_both}
 use Rattle.fields.proofs.little.put64.Goals as goal
 

@@ -1,9 +1,8 @@
 -- `fields::all_zero` meets its contract: before each turn what is left decides. Assumes nothing.
 use mathlib.Core.Path.{◌≡◌, sym, ◌∙◌}
-use Prim.Native.Nat.{◌+◌, ◌-◌, ◌≤◌}
+use Prim.Native.Nat.{◌+◌, ◌-◌}
 use native.Mathlib.Omega.{arith}
 use borrow.Author.Rules.{rules}
-use Rattle.fields.specs.Numbers.{part, all_zero}
 use Rattle.fields.proofs.Zeros.{zero_here, zero_not, zero_none}
 use Rattle.fields.proofs.runs.all_zero.Goals as goal
 

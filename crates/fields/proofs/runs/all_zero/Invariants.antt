@@ -1,10 +1,7 @@
 -- `fields::all_zero` meets its contract: before each turn what is left decides. Assumes nothing.
-use mathlib.Core.Path.{◌≡◌, sym, ◌∙◌}
+use mathlib.Core.Path.{◌≡◌}
 use Prim.Native.Nat.{◌+◌, ◌-◌, ◌≤◌}
-use native.Mathlib.Omega.{arith}
-use borrow.Author.Rules.{rules}
 use Rattle.fields.specs.Numbers.{part, all_zero}
-use Rattle.fields.proofs.Zeros.{zero_here, zero_not, zero_none}
 use Rattle.fields.proofs.runs.all_zero.Given as goal
 
 abbrev pub invariant-loop-i : goal.invariant-loop-i

@@ -1,11 +1,7 @@
 -- `fields::put_zeros` meets its contract: after i turns i zeros are written. Assumes nothing.
 use mathlib.Core.Path.{◌≡◌, refl}
-use Prim.Native.Nat.{◌-◌, ◌≤◌}
 use native.Mathlib.Omega.{arith}
 use borrow.Author.Rules.{rules}
-use lib.ListN.{length}
-use Rattle.fields.specs.Numbers.{zeros}
-use Rattle.fields.specs.Written.{Wrote}
 use Rattle.fields.proofs.Zeros.{one_more}
 use Rattle.fields.proofs.runs.put_zeros.Goals as goal
 

@@ -1,11 +1,8 @@
 -- `fields::same` meets its contract: before each turn the bytes before it are the same, and the last eight decide.
 -- Assumes nothing.
-use mathlib.Core.Path.{◌≡◌, refl, sym, ◌∙◌}
-use Prim.Native.Nat.{◌+◌, ◌-◌, ◌≤◌}
+use mathlib.Core.Path.{refl, sym, ◌∙◌}
 use native.Mathlib.Omega.{arith}
-use borrow.Author.Rules.{rules}
-use lib.ListN.{length}
-use Rattle.fields.proofs.Sames.{Alike, alike_more, alike_last, alike_not, other_length}
+use Rattle.fields.proofs.Sames.{alike_more, alike_last, alike_not, other_length}
 use Rattle.fields.proofs.runs.same.Goals as goal
 
 pub returns-then-b-a : goal.returns-then-b-a

@@ -1,11 +1,7 @@
 -- `fields::same` meets its contract: before each turn the bytes before it are the same, and the last eight decide.
 -- Assumes nothing.
-use mathlib.Core.Path.{◌≡◌, refl, sym, ◌∙◌}
-use Prim.Native.Nat.{◌+◌, ◌-◌, ◌≤◌}
-use native.Mathlib.Omega.{arith}
-use borrow.Author.Rules.{rules}
-use lib.ListN.{length}
-use Rattle.fields.proofs.Sames.{Alike, alike_more, alike_last, alike_not, other_length}
+use Prim.Native.Nat.{◌-◌}
+use Rattle.fields.proofs.Sames.{Alike}
 use Rattle.fields.proofs.runs.same.Given as goal
 
 abbrev pub invariant-loop-i : goal.invariant-loop-i

@@ -1,10 +1,8 @@
 -- `fields::leading` meets its contract: before each turn the i bytes in front are zero. Assumes nothing.
 use mathlib.Core.Path.{◌≡◌, sym, ◌∙◌}
-use Prim.Native.Nat.{◌+◌, ◌-◌, ◌≤◌}
+use Prim.Native.Nat.{◌+◌, ◌-◌}
 use native.Mathlib.Omega.{arith}
 use borrow.Author.Rules.{rules}
-use Rattle.fields.specs.Numbers.{part}
-use Rattle.fields.specs.Wrong.{leading}
 use Rattle.fields.proofs.WrongBytes.{lead_on, lead_here, lead_end}
 use Rattle.fields.proofs.wrong.leading.Goals as goal
 

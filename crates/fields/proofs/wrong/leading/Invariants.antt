@@ -1,11 +1,8 @@
 -- `fields::leading` meets its contract: before each turn the i bytes in front are zero. Assumes nothing.
-use mathlib.Core.Path.{◌≡◌, sym, ◌∙◌}
+use mathlib.Core.Path.{◌≡◌}
 use Prim.Native.Nat.{◌+◌, ◌-◌, ◌≤◌}
-use native.Mathlib.Omega.{arith}
-use borrow.Author.Rules.{rules}
 use Rattle.fields.specs.Numbers.{part}
 use Rattle.fields.specs.Wrong.{leading}
-use Rattle.fields.proofs.WrongBytes.{lead_on, lead_here, lead_end}
 use Rattle.fields.proofs.wrong.leading.Given as goal
 
 abbrev pub invariant-loop-i : goal.invariant-loop-i

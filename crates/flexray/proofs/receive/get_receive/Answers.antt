@@ -1,5 +1,4 @@
 -- `flexray::get_receive` meets its contract, field by field. Assumes nothing.
-use borrow.Author.Rules.{rules}
 use Rattle.flexray.specs.Fields.{receive_of}
 use Rattle.flexray.proofs.receive.get_receive.Goals as goal
 

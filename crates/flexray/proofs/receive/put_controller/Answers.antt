@@ -1,5 +1,4 @@
 -- `flexray::put_controller` meets its contract: one field behind the other. Assumes nothing.
-use borrow.Author.Rules.{rules}
 use Rattle.fields.proofs.Puts.{puts, slots}
 use Rattle.flexray.specs.Tables.{controller_slots}
 use Rattle.flexray.proofs.receive.put_controller.Goals as goal

@@ -1,5 +1,4 @@
 -- `flexray::put_origin` meets its contract: one field behind the other. Assumes nothing.
-use borrow.Author.Rules.{rules}
 use Rattle.fields.proofs.Puts.{done, put, first, written}
 use Rattle.flexray.specs.Tables.{origin_slots}
 use Rattle.flexray.proofs.receive.put_origin.Goals as goal

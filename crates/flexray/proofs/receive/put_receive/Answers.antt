@@ -1,5 +1,4 @@
 -- `flexray::put_receive` meets its contract: one part behind the other. Assumes nothing.
-use borrow.Author.Rules.{rules}
 use Rattle.fields.proofs.Puts.{done, put, chunk, first_chunk, written}
 use Rattle.flexray.specs.Tables.{origin_slots, slot_slots, controller_slots, receive_slots}
 use Rattle.flexray.proofs.receive.put_receive.Goals as goal

@@ -1,5 +1,4 @@
 -- `flexray::put_slot` meets its contract: one field behind the other. Assumes nothing.
-use borrow.Author.Rules.{rules}
 use Rattle.fields.proofs.Puts.{done, put, puts}
 use Rattle.flexray.specs.Tables.{slot_slots}
 use Rattle.flexray.proofs.receive.put_slot.Goals as goal

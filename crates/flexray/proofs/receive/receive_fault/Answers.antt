@@ -1,6 +1,5 @@
 -- `flexray::receive_fault` meets its contract: test by test, as the format has them. Assumes nothing.
 use mathlib.Core.Path.{◌≡◌, refl, ap₂, ◌∙◌}
-use borrow.Author.Rules.{rules}
 use Rattle.fields.specs.Numbers.{num}
 use Rattle.headers.specs.HeadTests.{first}
 use Rattle.headers.proofs.BodyTests.{in_turn_is}

@@ -1,7 +1,6 @@
 -- `flexray::receive_wrong_field` meets its contract: the one rule of the format. Assumes nothing.
 use mathlib.Core.Path.{ap, ap₂, ◌∙◌}
 use mathlib.Core.Bool.{Bool, cond}
-use borrow.Author.Rules.{rules}
 use Rattle.flexray.specs.Fields.{counts_ok}
 use Rattle.flexray.proofs.receive.receive_wrong_field.Goals as goal
 

@@ -1,5 +1,4 @@
 -- `flexray_records::read_receive` meets its contract: the record of what a look cut out of the log. Assumes nothing.
-use borrow.Author.Rules.{rules}
 use Rattle.headers.specs.Types.{receive}
 use Rattle.outcomes.proofs.Looks.{look_within}
 use Rattle.outcomes.proofs.Reading.{reads}

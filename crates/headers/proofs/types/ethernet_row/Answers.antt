@@ -4,7 +4,6 @@ use mathlib.Core.Path.{◌≡◌, sym, ap}
 use mathlib.Core.List.{[]}
 use Prim.Native.Nat.{ℕ, ◌≤◌}
 use native.Mathlib.Omega.{arith}
-use borrow.Author.Rules.{rules}
 use Rattle.headers.specs.Types.{type_list}
 use Rattle.headers.specs.Rows.{row_in, ethernet_types}
 use Rattle.headers.proofs.TypeSearch.{row_behind}

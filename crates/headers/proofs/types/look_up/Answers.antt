@@ -1,7 +1,6 @@
 -- `headers::look_up` meets its contract: where the number is a row's own, the list has that row; and
 -- where it is none of these, the Ethernet types' part of the list has it. Assumes nothing.
 use mathlib.Core.Path.{sym, ap, ◌∙◌}
-use borrow.Author.Rules.{rules}
 use lib.ListN.{take}
 use Rattle.headers.specs.Types.{type_list}
 use Rattle.headers.specs.Rows.{row_in, row_of, ethernet_types}

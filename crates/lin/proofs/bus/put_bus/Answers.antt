@@ -1,5 +1,4 @@
 -- `lin::put_bus` meets its contract: one field behind the other. Assumes nothing.
-use borrow.Author.Rules.{rules}
 use Rattle.fields.proofs.Puts.{written, slots}
 use Rattle.lin.specs.Tables.{bus_slots}
 use Rattle.lin.proofs.bus.put_bus.Goals as goal

@@ -1,6 +1,5 @@
 -- `lin::get_message` meets its contract, field by field. Assumes nothing.
 use native.Mathlib.Omega.{arith}
-use borrow.Author.Rules.{rules}
 use Rattle.lin.specs.Fields.{message_of}
 use Rattle.lin.proofs.message.get_message.Goals as goal
 

@@ -1,7 +1,6 @@
 -- `lin::message_wrong_field` meets its contract: the one rule of the format. Assumes nothing.
 use mathlib.Core.Path.{ap, ◌∙◌}
 use mathlib.Core.Bool.{Bool, cond}
-use borrow.Author.Rules.{rules}
 use Rattle.lin.specs.Fields.{tail_ok}
 use Rattle.lin.proofs.message.message_wrong_field.Goals as goal
 

@@ -1,5 +1,4 @@
 -- `lin::put_machines` meets its contract: one field behind the other. Assumes nothing.
-use borrow.Author.Rules.{rules}
 use Rattle.fields.proofs.Puts.{written, slots}
 use Rattle.lin.specs.Tables.{machine_slots}
 use Rattle.lin.proofs.message.put_machines.Goals as goal

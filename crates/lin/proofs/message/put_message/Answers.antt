@@ -1,5 +1,4 @@
 -- `lin::put_message` meets its contract: one part behind the other. Assumes nothing.
-use borrow.Author.Rules.{rules}
 use Rattle.fields.proofs.Puts.{put, chunk, first_chunk, last, written}
 use Rattle.lin.specs.Tables.{bus_slots, synch_slots, descriptor_slots, status_slots, machine_slots, message_slots}
 use Rattle.lin.proofs.message.put_message.Goals as goal

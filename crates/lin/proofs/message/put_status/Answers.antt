@@ -1,5 +1,4 @@
 -- `lin::put_status` meets its contract: one field behind the other. Assumes nothing.
-use borrow.Author.Rules.{rules}
 use Rattle.fields.proofs.Puts.{done, put, first, written}
 use Rattle.lin.specs.Tables.{status_slots}
 use Rattle.lin.proofs.message.put_status.Goals as goal

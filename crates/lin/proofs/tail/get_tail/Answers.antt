@@ -1,6 +1,5 @@
 -- `lin::get_tail` meets its contract: it is what stands behind the first 132 bytes. Assumes nothing.
 use mathlib.Core.Path.{ap, ◌∙◌}
-use borrow.Author.Rules.{rules}
 use Rattle.fields.proofs.Parts.{tail}
 use Rattle.lin.specs.Fields.{tail_of}
 use Rattle.lin.proofs.tail.get_tail.Goals as goal

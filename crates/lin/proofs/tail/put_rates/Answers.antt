@@ -1,6 +1,5 @@
 -- `lin::put_rates` meets its contract: one field behind the other. Assumes nothing.
 use mathlib.Core.Path.{refl}
-use borrow.Author.Rules.{rules}
 use Rattle.fields.specs.Digits.{le}
 use Rattle.fields.proofs.Writing.{then}
 use Rattle.lin.specs.Tail.{rates}

@@ -2,7 +2,6 @@
 use mathlib.Core.Path.{◌≡◌, refl}
 use native.Mathlib.Omega.{arith}
 use lib.ListN.{length}
-use borrow.Author.Rules.{rules}
 use Rattle.lin.specs.Tail.{tail}
 use Rattle.lin.proofs.TailLaws.{length_response, length_rates}
 use Rattle.lin.proofs.tail.put_tail.Goals as goal

@@ -1,6 +1,5 @@
 -- `lin::rate_of` meets its contract: without its sign a NaN's pattern is above infinity's, and zero by zero is a NaN.
 -- Assumes nothing.
-use borrow.Author.Rules.{rules}
 use Rattle.lin.proofs.RateLaws.{nan_bits_same, number_bits}
 use Rattle.lin.proofs.tail.rate_of.Goals as goal
 

@@ -1,6 +1,5 @@
 -- `lin::tail_length` meets its contract, by the ways to end. Assumes nothing.
 use mathlib.Core.Path.{refl, sym}
-use borrow.Author.Rules.{rules}
 use Rattle.lin.specs.Tail.{tail}
 use Rattle.lin.proofs.TailLaws.{length_response, length_rates}
 use Rattle.lin.proofs.tail.tail_length.Goals as goal

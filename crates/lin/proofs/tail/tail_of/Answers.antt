@@ -1,7 +1,6 @@
 -- `lin::tail_of` meets its contract: the length decides, as in the definition. Assumes nothing.
 use mathlib.Core.Path.{ap, ◌∙◌}
 use lib.Ieee.{binary64, of_bits}
-use borrow.Author.Rules.{rules}
 use borrow.Author.Tests.{ne_eqb}
 use Rattle.lin.specs.declared.tail.Tail.TheVariants.{Response, Rates}
 use Rattle.lin.specs.Fields.{tail_of}

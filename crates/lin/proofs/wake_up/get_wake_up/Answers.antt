@@ -1,5 +1,4 @@
 -- `lin::get_wake_up` meets its contract, field by field of the body. Assumes nothing.
-use borrow.Author.Rules.{rules}
 use Rattle.lin.specs.Fields.{wake_up_of}
 use Rattle.lin.proofs.wake_up.get_wake_up.Goals as goal
 

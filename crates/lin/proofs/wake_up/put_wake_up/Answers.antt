@@ -1,5 +1,4 @@
 -- `lin::put_wake_up` meets its contract: one field behind the other. Assumes nothing.
-use borrow.Author.Rules.{rules}
 use Rattle.fields.proofs.Puts.{done, put, written}
 use Rattle.lin.specs.Tables.{bus_slots, wake_up_slots}
 use Rattle.lin.proofs.BusLaws.{first_bus}

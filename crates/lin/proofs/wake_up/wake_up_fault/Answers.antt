@@ -1,6 +1,5 @@
 -- `lin::wake_up_fault` meets its contract: the code reads like the definition. Assumes nothing.
 use mathlib.Core.Path.{refl, ap₂, ◌∙◌}
-use borrow.Author.Rules.{rules}
 use Rattle.headers.specs.HeadTests.{first}
 use Rattle.headers.proofs.BodyTests.{in_turn_is}
 use Rattle.lin.specs.Fields.{wake_up_format}

@@ -1,7 +1,6 @@
 -- `lin::wake_up_wrong_byte` meets its contract: gap by gap, as the format has them. Assumes nothing.
 use mathlib.Core.Path.{ap, ◌∙◌}
 use Prim.Native.Nat.{◌+◌}
-use borrow.Author.Rules.{rules}
 use Rattle.fields.specs.Wrong.{wrong_in}
 use Rattle.lin.proofs.wake_up.wake_up_wrong_byte.Goals as goal
 

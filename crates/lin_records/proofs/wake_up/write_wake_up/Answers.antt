@@ -2,7 +2,6 @@
 -- Assumes nothing.
 use mathlib.Core.Path.{refl, sym}
 use native.Mathlib.Omega.{arith}
-use borrow.Author.Rules.{rules}
 use Rattle.headers.specs.Types.{wake_up}
 use Rattle.headers.proofs.TypeKinds as list
 use Rattle.lin.proofs.Laws.{wake_up_length}

@@ -1,5 +1,4 @@
 -- `headers::Row::allows_body` meets its contract: no row has a size that the field can't say. Assumes nothing.
-use native.Mathlib.Omega.{arith}
 use borrow.Author.Rules.{rules}
 use Rattle.headers.proofs.TypeList.{past_row}
 use Rattle.headers.proofs.types.Row.allows_body.Goals as goal
