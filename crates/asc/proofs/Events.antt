@@ -37,7 +37,7 @@ use Rattle.can.specs.declared.statistic.Statistic.{Statistic}
 use Rattle.outcomes.specs.Reads.{record_of, record_in}
 use Rattle.outcomes.proofs.Reading.{record_long}
 use Rattle.asc.specs.Tells.{Event, message, overload, statistic}
-use Rattle.asc.specs.Writes.{item_of, Found, one, none}
+use Rattle.asc.specs.Writes.{item_of, one, none}
 use Rattle.asc.specs.Objects.{whole, event_as, event_in}
 
 -- 7 to 9 let through what 8 and 9 do

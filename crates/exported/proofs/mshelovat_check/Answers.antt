@@ -1,6 +1,5 @@
 -- `exported::mshelovat_check` meets its contract: each way of the answer is told as it is. Assumes nothing.
 use mathlib.Core.Path.{sym, ap, ◌∙◌}
-use borrow.Author.Rules.{rules}
 use Rattle.slips.specs.declared.pass.Verdict.{Verdict}
 use Rattle.slips.specs.Replies.{check_reply}
 use Rattle.exported.specs.Replies.{lent, told_of}

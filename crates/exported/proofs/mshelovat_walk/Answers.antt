@@ -1,6 +1,5 @@
 -- `exported::mshelovat_walk` meets its contract: each way of the answer is told as it is. Assumes nothing.
 use mathlib.Core.Path.{sym, ap, ◌∙◌}
-use borrow.Author.Rules.{rules}
 use Rattle.objects.specs.declared.Walked.{Walked}
 use Rattle.objects.specs.Replies.{walk_reply}
 use Rattle.exported.specs.Replies.{lent, told_of}

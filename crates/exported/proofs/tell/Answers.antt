@@ -1,5 +1,4 @@
 -- `exported::tell` meets its contract. Assumes nothing.
-use borrow.Author.Rules.{rules}
 use Rattle.exported.proofs.Lending.{too_short, room}
 use Rattle.exported.proofs.tell.Goals as goal
 

@@ -3,7 +3,6 @@ use Prim.Native.Nat.{ℕ, ◌<◌, ◌≤◌}
 use lib.ListN.{set}
 use lib.Seq.{lt-length-set}
 use native.Mathlib.Omega.{arith}
-use borrow.Author.Rules.{rules}
 use Rattle.exported.proofs.Lending.{too_short, room}
 use Rattle.exported.proofs.tell_four.Goals as goal
 

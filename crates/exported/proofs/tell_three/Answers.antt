@@ -1,7 +1,6 @@
 -- `exported::tell_three` meets its contract: a store keeps the length, so all three places are there. Assumes nothing.
 use lib.Seq.{lt-length-set}
 use native.Mathlib.Omega.{arith}
-use borrow.Author.Rules.{rules}
 use Rattle.exported.proofs.Lending.{too_short, room}
 use Rattle.exported.proofs.tell_three.Goals as goal
 

@@ -1,5 +1,4 @@
 -- `exported::tell_two` meets its contract. Assumes nothing.
-use borrow.Author.Rules.{rules}
 use Rattle.exported.proofs.Lending.{too_short, room}
 use Rattle.exported.proofs.tell_two.Goals as goal
 

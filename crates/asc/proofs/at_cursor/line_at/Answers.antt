@@ -5,7 +5,6 @@ use Rattle.objects.specs.declared.Step.{Step}
 use Rattle.objects.proofs.Walks.{object_within}
 use Rattle.outcomes.proofs.Looks.{is_done}
 use Rattle.asc.proofs.LineSteps.{step_done, step_refused, at_part}
-use borrow.Author.Rules.{rules}
 use Rattle.asc.proofs.at_cursor.line_at.Goals as goal
 
 pub overflow_add-start : goal.overflow_add-start

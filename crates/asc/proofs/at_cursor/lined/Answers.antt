@@ -1,7 +1,6 @@
 -- `asc::at_cursor::lined` meets its contract: a law for each answer. Assumes nothing.
 use mathlib.Core.Path.{sym, ap}
 use Rattle.asc.specs.Objects.{lined}
-use borrow.Author.Rules.{rules}
 use Rattle.asc.proofs.at_cursor.lined.Goals as goal
 
 pub returns-in-Used : goal.returns-in-Used

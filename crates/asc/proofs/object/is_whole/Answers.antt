@@ -3,7 +3,6 @@ use mathlib.Core.Path.{sym, ap, ◌∙◌}
 use mathlib.Core.Bool.{false≢true}
 use native.Mathlib.Omega.{arith}
 use borrow.Author.Rules.{rules}
-use borrow.Author.Tests.{not-true, not-false}
 use Rattle.headers.specs.Rows.{row_of, listed}
 use Rattle.headers.specs.Types.{overload}
 use Rattle.headers.specs.Form.{body_fault}

@@ -3,7 +3,6 @@ use mathlib.Core.Path.{sym}
 use borrow.Author.Tests.{ne_eqb}
 use Rattle.asc.proofs.Writings.{outcome_by, nothing_written}
 use Rattle.asc.proofs.Wholes.{no_line, as_message, as_overload, as_statistic}
-use borrow.Author.Rules.{rules}
 use Rattle.asc.proofs.object.line_as.Goals as goal
 
 pub returns-then-kind-eq-CAN_MESSAGE : goal.returns-then-kind-eq-CAN_MESSAGE

@@ -1,8 +1,6 @@
 -- `asc::object::object_line` meets its contract: whether they are an object decides. Assumes nothing.
-use borrow.Author.Tests.{not-true, not-false}
 use Rattle.asc.proofs.Writings.{outcome_by, nothing_written}
 use Rattle.asc.proofs.Wholes.{settled_not, settled}
-use borrow.Author.Rules.{rules}
 use Rattle.asc.proofs.object.object_line.Goals as goal
 
 pub returns-then-not-is_whole : goal.returns-then-not-is_whole

@@ -1,6 +1,5 @@
 -- `asc::record::copy_line` meets its contract: 10, or what a copy leaves. Assumes nothing.
 use Rattle.asc.proofs.Writings.{no_room, copied}
-use borrow.Author.Rules.{rules}
 use Rattle.asc.proofs.record.copy_line.Goals as goal
 
 pub returns-then-out-line : goal.returns-then-out-line

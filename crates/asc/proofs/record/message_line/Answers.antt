@@ -2,13 +2,11 @@
 use native.Mathlib.Omega.{arith}
 use Prim.Native.Nat.{◌-◌}
 use mathlib.Core.Path.{refl, sym, ap₂, ◌∙◌}
-use borrow.Author.Tests.{not-true, not-false}
 use Rattle.can.proofs.KnownLaws.{message_known}
 use Rattle.digits.proofs.Texts.{said_part}
 use Rattle.asc_lines.specs.Told.{of_message}
 use Rattle.asc.specs.Tells.{message, tells}
 use Rattle.asc.proofs.Writings.{unit_refused, unit_taken}
-use borrow.Author.Rules.{rules}
 use Rattle.asc.proofs.record.message_line.Goals as goal
 
 pub returns-then-not-unit_ok : goal.returns-then-not-unit_ok

@@ -3,7 +3,6 @@ use mathlib.Core.Path.{ap, ◌∙◌}
 use Prim.Native.Nat.{ℕ, ◌%◌}
 use lib.Dec.{leb}
 use Rattle.asc.specs.Tells.{is_sent, is_remote, kept, frame_told}
-use borrow.Author.Rules.{rules}
 use Rattle.asc.proofs.tells.frame_told.Goals as goal
 
 pub returns : goal.returns

@@ -1,6 +1,5 @@
 -- `asc::tells::head_told` meets its contract: a law for each unit. Assumes nothing.
 use Rattle.asc.proofs.ToldOfRecord.{head_tens, head_nanos}
-use borrow.Author.Rules.{rules}
 use Rattle.asc.proofs.tells.head_told.Goals as goal
 
 pub returns-then-h-eq1 : goal.returns-then-h-eq1

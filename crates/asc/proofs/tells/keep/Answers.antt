@@ -1,7 +1,6 @@
 -- `asc::tells::keep` meets its contract: after i turns i bytes are kept. Assumes nothing.
 use native.Mathlib.Omega.{arith}
-use mathlib.Core.Path.{◌≡◌, refl}
-use Prim.Native.Nat.{◌-◌, ◌≤◌}
+use mathlib.Core.Path.{refl}
 use borrow.Author.Rules.{rules}
 use Rattle.asc.specs.Tells.{kept}
 use Rattle.asc.proofs.ToldOfRecord.{kept_all, kept_more, kept_done}

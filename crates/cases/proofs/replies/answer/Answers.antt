@@ -2,7 +2,6 @@
 use mathlib.Core.Path.{◌∙◌}
 use native.Mathlib.Omega.{arith}
 use Rattle.cases.proofs.Asked.{short_case, odd_case, whole_case}
-use borrow.Author.Rules.{rules}
 use Rattle.cases.proofs.replies.answer.Goals as goal
 
 pub returns-then-case-lt17 : goal.returns-then-case-lt17

@@ -3,7 +3,6 @@ use mathlib.Core.Path.{sym, ap, ◌∙◌}
 use Rattle.slips.specs.declared.pass.Verdict.{Verdict}
 use Rattle.slips.specs.Replies.{check_reply}
 use Rattle.cases.specs.Replies.{count_reply}
-use borrow.Author.Rules.{rules}
 use Rattle.cases.proofs.replies.check_reply.Goals as goal
 
 pub returns-in-Accepted : goal.returns-in-Accepted

@@ -6,7 +6,6 @@ use Rattle.slips.specs.declared.pass.Verdict.{Verdict}
 use Rattle.slips.specs.Replies.{check_reply}
 use Rattle.cases.specs.Replies.{step_reply, count_reply}
 use Rattle.cases.proofs.Asked.{step_asked, walk_asked, check_asked, not_asked}
-use borrow.Author.Rules.{rules}
 use Rattle.cases.proofs.replies.reply_to.Goals as goal
 
 pub returns-then-question-eq1 : goal.returns-then-question-eq1

@@ -4,7 +4,6 @@ use Rattle.objects.specs.declared.Answer.{Answer}
 use Rattle.objects.specs.Replies.{answer_reply}
 use Rattle.cases.specs.Replies.{numbers_of}
 use Rattle.cases.proofs.Asked.{done}
-use borrow.Author.Rules.{rules}
 use Rattle.cases.proofs.replies.step_reply.Goals as goal
 
 pub returns-in-Object : goal.returns-in-Object

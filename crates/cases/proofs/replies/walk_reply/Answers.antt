@@ -3,7 +3,6 @@ use mathlib.Core.Path.{sym, ap, ◌∙◌}
 use Rattle.objects.specs.declared.Walked.{Walked}
 use Rattle.objects.specs.Replies.{walk_reply}
 use Rattle.cases.specs.Replies.{count_reply}
-use borrow.Author.Rules.{rules}
 use Rattle.cases.proofs.replies.walk_reply.Goals as goal
 
 pub returns-in-Count : goal.returns-in-Count

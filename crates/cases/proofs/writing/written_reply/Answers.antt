@@ -3,7 +3,6 @@ use mathlib.Core.Path.{sym, ap, ◌∙◌}
 use Rattle.outcomes.specs.declared.Written.{Written}
 use Rattle.outcomes.specs.Replies.{written_reply}
 use Rattle.cases.specs.Replies.{used_reply}
-use borrow.Author.Rules.{rules}
 use Rattle.cases.proofs.writing.written_reply.Goals as goal
 
 pub returns-in-Used : goal.returns-in-Used

@@ -1,6 +1,5 @@
 -- `exported::line::mshelovat_line` meets its contract: too few numbers lent, or the outcome told. Assumes nothing.
 use Rattle.exported.proofs.Lining.{unlined, object_lined}
-use borrow.Author.Rules.{rules}
 use Rattle.exported.proofs.line.mshelovat_line.Goals as goal
 
 pub returns-then-out-lt1 : goal.returns-then-out-lt1

@@ -1,6 +1,5 @@
 -- `exported::line::mshelovat_line_at` meets its contract: too few numbers lent, or the step told. Assumes nothing.
 use Rattle.exported.proofs.Lining.{unplaced, placed}
-use borrow.Author.Rules.{rules}
 use Rattle.exported.proofs.line.mshelovat_line_at.Goals as goal
 
 pub returns-then-out-lt2 : goal.returns-then-out-lt2

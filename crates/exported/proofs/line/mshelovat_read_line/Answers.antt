@@ -1,6 +1,5 @@
 -- `exported::line::mshelovat_read_line` meets its contract: too few numbers lent, or what is told. Assumes nothing.
 use Rattle.exported.proofs.Lining.{read_short, read_told}
-use borrow.Author.Rules.{rules}
 use Rattle.exported.proofs.line.mshelovat_read_line.Goals as goal
 
 pub returns-then-out-lt24 : goal.returns-then-out-lt24

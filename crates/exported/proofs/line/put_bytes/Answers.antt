@@ -1,10 +1,7 @@
 -- `exported::line::put_bytes` meets its contract: after i turns i bytes stand there. Assumes nothing.
 use native.Mathlib.Omega.{arith}
 use mathlib.Core.Path.{refl}
-use Prim.Native.Nat.{◌-◌, ◌≤◌}
-use lib.ListN.{take}
 use borrow.Author.Rules.{rules}
-use Rattle.fields.specs.Written.{Wrote}
 use Rattle.fields.proofs.Writing.{wrote_length}
 use Rattle.exported.proofs.Lining.{byte_put, bytes_put}
 use Rattle.exported.proofs.line.put_bytes.Goals as goal

@@ -3,7 +3,6 @@ use mathlib.Core.List.{[], ◌∷◌}
 use lib.ListN.{length-set}
 use lib.Seq.{sets}
 use native.Mathlib.Omega.{arith}
-use borrow.Author.Rules.{rules}
 use Rattle.exported.proofs.line.put_frame.Goals as goal
 
 pub bounds-out-5 : goal.bounds-out-5

@@ -1,7 +1,6 @@
 -- `exported::line::put_head` meets its contract: a store keeps the length, so all places are there. Assumes nothing.
 use lib.ListN.{length-set}
 use native.Mathlib.Omega.{arith}
-use borrow.Author.Rules.{rules}
 use Rattle.exported.proofs.line.put_head.Goals as goal
 
 pub bounds-out-1 : goal.bounds-out-1

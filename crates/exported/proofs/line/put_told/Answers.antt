@@ -1,6 +1,5 @@
 -- `exported::line::put_told` meets its contract: one part behind the other. Assumes nothing.
 use Rattle.exported.proofs.Lining.{told_put}
-use borrow.Author.Rules.{rules}
 use Rattle.exported.proofs.line.put_told.Goals as goal
 
 pub returns : goal.returns

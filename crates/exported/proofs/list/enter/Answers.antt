@@ -1,7 +1,6 @@
 -- `exported::enter` meets its contract: a store keeps the length, so all three places are there. Assumes nothing.
 use lib.ListN.{length-set}
 use native.Mathlib.Omega.{arith}
-use borrow.Author.Rules.{rules}
 use Rattle.exported.proofs.Entering.{entered}
 use Rattle.exported.proofs.list.enter.Goals as goal
 

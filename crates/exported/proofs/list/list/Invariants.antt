@@ -1,13 +1,7 @@
 -- `exported::list` meets its contract: before each turn the list from the cursor on, with n objects listed, is the
 -- whole list (`Entering`), and each way out is one law of it. Assumes nothing.
-use mathlib.Core.Path.{sym, ap, ◌∙◌}
 use Prim.Native.Nat.{◌-◌}
-use native.Mathlib.Omega.{arith}
-use borrow.Author.Rules.{rules}
-use Rattle.objects.specs.declared.Step.{Step}
-use Rattle.objects.proofs.Answers.{left}
-use Rattle.exported.proofs.Entering.{Entering, entering_none, entering_more, list_full, list_done, list_refused, has_room}
-use borrow.Enum.Refused.{opened}
+use Rattle.exported.proofs.Entering.{Entering}
 use Rattle.exported.proofs.list.list.Given as goal
 
 abbrev pub invariant-loop-n : goal.invariant-loop-n

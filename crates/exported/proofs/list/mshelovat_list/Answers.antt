@@ -1,5 +1,4 @@
 -- `exported::mshelovat_list` meets its contract: too few numbers lent, or the list told. Assumes nothing.
-use borrow.Author.Rules.{rules}
 use Rattle.exported.proofs.Entering.{unlisted, all_listed}
 use Rattle.exported.proofs.list.mshelovat_list.Goals as goal
 

@@ -1,5 +1,4 @@
 -- `exported::mshelovat_read` meets its contract: no room in either slice, or the object copied. Assumes nothing.
-use borrow.Author.Rules.{rules}
 use Rattle.outcomes.proofs.Looks.{look_within}
 use Rattle.exported.proofs.Recording.{no_room, no_values, copied}
 use Rattle.exported.proofs.record.mshelovat_read.Goals as goal

@@ -1,5 +1,4 @@
 -- `exported::mshelovat_write` meets its contract: too few numbers lent, or the outcome told. Assumes nothing.
-use borrow.Author.Rules.{rules}
 use Rattle.exported.proofs.Recording.{unwritten, wrote}
 use Rattle.exported.proofs.record.mshelovat_write.Goals as goal
 

@@ -2,7 +2,6 @@
 use mathlib.Core.Path.{◌≡◌, sym, ap, ◌∙◌}
 use mathlib.Core.List.{List}
 use Prim.Native.Nat.{ℕ}
-use borrow.Author.Rules.{rules}
 use Rattle.outcomes.specs.declared.ReadAnswer.{ReadAnswer}
 use Rattle.outcomes.specs.declared.Looked.{Looked}
 use Rattle.outcomes.specs.Replies.{read_reply}

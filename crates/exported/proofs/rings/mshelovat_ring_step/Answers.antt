@@ -1,6 +1,5 @@
 -- `exported::rings::mshelovat_ring_step` meets its contract: too few numbers lent, or the step told. Assumes nothing.
 use mathlib.Core.Path.{ap, ◌∙◌}
-use borrow.Author.Rules.{rules}
 use Rattle.ring.specs.declared.RingStep.{RingStep}
 use Rattle.exported.specs.Replies.{lent}
 use Rattle.exported.specs.Rings.{ring_reply}

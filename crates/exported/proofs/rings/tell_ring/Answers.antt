@@ -2,7 +2,6 @@
 use mathlib.Core.Path.{◌≡◌, sym, ap, ◌∙◌}
 use mathlib.Core.List.{List}
 use Prim.Native.Nat.{ℕ}
-use borrow.Author.Rules.{rules}
 use Rattle.ring.specs.declared.RingAnswer.{RingAnswer}
 use Rattle.ring.specs.declared.RingStep.{RingStep}
 use Rattle.exported.specs.Replies.{Reply, lent}

@@ -6,7 +6,6 @@ use Rattle.tray.specs.declared.TrayAnswer.{TrayAnswer}
 use Rattle.tray.specs.declared.Trayed.{Trayed}
 use Rattle.exported.specs.Replies.{Reply, lent}
 use Rattle.exported.specs.Trays.{filled_reply}
-use borrow.Author.Rules.{rules}
 use Rattle.exported.proofs.trays.tell_tray.Goals as goal
 
 -- what is told of the answer that is known is told of the tray

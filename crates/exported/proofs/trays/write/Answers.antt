@@ -4,7 +4,6 @@ use Rattle.tray.specs.declared.Trayed.{Trayed}
 use Rattle.exported.specs.Replies.{lent}
 use Rattle.exported.specs.Trays.{filled_reply}
 use Rattle.exported.proofs.Lending.{unfilled, filled}
-use borrow.Author.Rules.{rules}
 use Rattle.exported.proofs.trays.write.Goals as goal
 
 pub returns-then-out-lt1 : goal.returns-then-out-lt1
