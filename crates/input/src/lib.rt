@@ -9,7 +9,7 @@ use std::fs::Files;
 use std::io::Read;
 
 // How many bytes came before the input ended or the buffer was full; or a read that failed.
-#[derive(Drop)]
+#[derive(Clone, Copy)]
 pub enum Input {
     Bytes(usize),
     Failed,
