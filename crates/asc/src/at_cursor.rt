@@ -6,7 +6,7 @@ use crate::object::line_as;
 use objects::{Answer, Cursor};
 use outcomes::Written;
 
-#[derive(Drop)]
+#[derive(Clone, Copy)]
 pub enum LineAt {
     // The bytes of the line; 0 for an object of another type.
     Line(usize),
@@ -17,7 +17,7 @@ pub enum LineAt {
 }
 
 // The answer, and the cursor to go on with: as it was at done and at a refusal.
-#[derive(Drop)]
+#[derive(Clone, Copy)]
 pub struct LineStep {
     pub answer: LineAt,
     pub next: Cursor,

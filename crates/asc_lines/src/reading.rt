@@ -9,7 +9,7 @@ use crate::told::{
 use crate::writing::put_line;
 
 // Whether a text is a line.
-#[derive(Drop)]
+#[derive(Clone, Copy)]
 pub enum LineAnswer {
     // It is: what it tells stands beside this.
     Line,
@@ -18,14 +18,14 @@ pub enum LineAnswer {
 }
 
 // The answer, and what the line tells: zeros where there is none.
-#[derive(Drop)]
+#[derive(Clone, Copy)]
 pub struct Reading {
     pub answer: LineAnswer,
     pub told: Told,
 }
 
 // The head of a text, and the place behind it.
-#[derive(Drop)]
+#[derive(Clone, Copy)]
 struct HeadRead {
     head: Head,
     end: usize,

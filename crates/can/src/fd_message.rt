@@ -10,7 +10,7 @@ ghost use Rattle.can.specs.Fields.{fd_message_of, most_valid, fd_message_format}
 
 use crate::front::{Front, get_front, put_front};
 
-#[derive(Drop)]
+#[derive(Clone, Copy)]
 pub struct FdMessage {
     pub header: headers::Header,
     pub channel: u16,

@@ -5,7 +5,7 @@ ghost use Rattle.fields.specs.Slots.{bytes_of};
 ghost use Rattle.can.specs.Tables.{front_slots};
 ghost use Rattle.can.specs.Fields.{front_of};
 
-#[derive(Drop)]
+#[derive(Clone, Copy)]
 pub(crate) struct Front {
     pub(crate) channel: u16,
     pub(crate) flags: u8,

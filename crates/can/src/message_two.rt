@@ -10,7 +10,7 @@ ghost use Rattle.can.specs.Fields.{message_two_of, message_two_format};
 
 use crate::message::{Message, get_message, put_message};
 
-#[derive(Drop)]
+#[derive(Clone, Copy)]
 pub struct MessageTwo {
     pub message: Message,
     // in nanoseconds

@@ -8,7 +8,7 @@ ghost use Rattle.headers.specs.Form.{body_fault};
 ghost use Rattle.can.specs.Tables.{overload_slots};
 ghost use Rattle.can.specs.Fields.{overload_of, overload_format};
 
-#[derive(Drop)]
+#[derive(Clone, Copy)]
 pub struct Overload {
     pub header: headers::Header,
     pub channel: u16,

@@ -5,7 +5,7 @@ ghost use Rattle.fields.specs.Slots.{bytes_of};
 ghost use Rattle.can.specs.Tables.{counter_slots, statistic_slots};
 ghost use Rattle.can.specs.Fields.{statistic_of};
 
-#[derive(Drop)]
+#[derive(Clone, Copy)]
 pub struct Statistic {
     pub header: headers::Header,
     pub channel: u16,

@@ -13,7 +13,7 @@ const KIND: u32 = headers::CAN_FD_MESSAGE;
 const BODY: usize = 88;
 
 // What a read is told, the next cursor, and the record: zeros but where it is told of one.
-#[derive(Drop)]
+#[derive(Clone, Copy)]
 pub struct FdMessageRead {
     pub told: ReadAnswer,
     pub next: Cursor,

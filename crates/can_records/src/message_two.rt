@@ -13,7 +13,7 @@ const KIND: u32 = headers::CAN_MESSAGE_TWO;
 const BODY: usize = 24;
 
 // What a read is told, the next cursor, and the record: zeros but where it is told of one.
-#[derive(Drop)]
+#[derive(Clone, Copy)]
 pub struct MessageTwoRead {
     pub told: ReadAnswer,
     pub next: Cursor,

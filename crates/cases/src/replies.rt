@@ -8,7 +8,7 @@ use objects::{Answer, Cursor, Step, Walked};
 use slips::Verdict;
 
 // A word for the kind of answer, and its numbers: those that it doesn't have are 0.
-#[derive(Drop)]
+#[derive(Clone, Copy)]
 pub struct Reply {
     pub word: u64,
     pub first: u64,

@@ -3,7 +3,7 @@ ghost use Rattle.std.specs.Prelude.{◌+◌, ◌≤◌, ◌<◌, ◌^◌, ◌≡
 ghost use Rattle.digits.specs.Reading.{digit as Reading·digit, number};
 
 // A number, and the place behind its digits.
-#[derive(Drop)]
+#[derive(Clone, Copy)]
 pub struct Number {
     pub value: u64,
     pub end: usize,

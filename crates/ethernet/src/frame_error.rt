@@ -10,7 +10,7 @@ use crate::event::{length_fault, put_event};
 use crate::frame::{Frame, get_frame};
 
 // The frame's fields, and the error code where a frame has reserved bytes.
-#[derive(Drop)]
+#[derive(Clone, Copy)]
 pub struct FrameError {
     pub frame: Frame,
     pub code: u32,

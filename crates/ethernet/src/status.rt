@@ -5,7 +5,7 @@ ghost use Rattle.fields.specs.Slots.{bytes_of};
 ghost use Rattle.ethernet.specs.Tables.{status_slots};
 ghost use Rattle.ethernet.specs.Fields.{status_of};
 
-#[derive(Drop)]
+#[derive(Clone, Copy)]
 pub struct Status {
     pub header: headers::Header,
     pub channel: u16,

@@ -16,7 +16,7 @@ const FORWARDED: u32 = headers::FORWARDED_FRAME;
 
 // What a read is told, the next cursor, and the record: zeros but where it is told of one. The frame's bytes are
 // `objects::frame` at the same cursor.
-#[derive(Drop)]
+#[derive(Clone, Copy)]
 pub struct FrameRead {
     pub told: ReadAnswer,
     pub next: Cursor,

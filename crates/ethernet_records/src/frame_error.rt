@@ -17,7 +17,7 @@ const FORWARDED: u32 = headers::FORWARDED_ERROR;
 
 // What a read is told, the next cursor, and the record: zeros but where it is told of one. The frame's bytes are
 // `objects::frame` at the same cursor.
-#[derive(Drop)]
+#[derive(Clone, Copy)]
 pub struct ErrorRead {
     pub told: ReadAnswer,
     pub next: Cursor,

@@ -9,7 +9,7 @@ use objects::{Answer, Cursor};
 
 // The number to be told, how many objects were listed, the position where the next call goes on, and the place of a
 // refusal, or 0.
-#[derive(Drop)]
+#[derive(Clone, Copy)]
 struct Listed {
     number: u32,
     count: usize,

@@ -13,7 +13,7 @@ const KIND: u32 = headers::FLEXRAY_RECEIVE;
 const BODY: usize = 298;
 
 // What a read is told, the next cursor, and the record: zeros but where it is told of one.
-#[derive(Drop)]
+#[derive(Clone, Copy)]
 pub struct ReceiveRead {
     pub told: ReadAnswer,
     pub next: Cursor,

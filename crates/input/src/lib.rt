@@ -9,7 +9,7 @@ use std::fs::Files;
 use std::io::Read;
 
 // How many bytes came before the input ended or the buffer was full; or a read that failed.
-#[derive(Drop)]
+#[derive(Clone, Copy)]
 pub enum Input {
     Bytes(usize),
     Failed,
@@ -44,11 +44,14 @@ pub fn read_all<R: Read>(from: &mut R, buf: &mut [u8]) -> Input
     Input::Bytes(n)
 }
 
-// Reads a file to its end; failed where it can't be opened or read.
-pub fn read_file<F: Files>(files: &F, name: &str, buf: &mut [u8]) -> Input
+// Reads a file to its end; failed where it can't be opened or read, as one whose name is no text, since a path of std is.
+pub fn read_file<F: Files>(files: &F, name: &[u8], buf: &mut [u8]) -> Input
     ensures { TakenFile result buf.old buf.new }
 {
-    let Ok(mut file) = fs::open(files, name) else {
+    let Ok(path) = str::from_utf8(name) else {
+        return Input::Failed;
+    };
+    let Ok(mut file) = fs::open(files, path) else {
         return Input::Failed;
     };
     read_all(&mut file, buf)

@@ -10,7 +10,7 @@ ghost use Rattle.lin.specs.Fields.{wake_up_of, wake_up_format};
 
 use crate::bus::put_bus;
 
-#[derive(Drop)]
+#[derive(Clone, Copy)]
 pub struct WakeUp {
     pub header: headers::Header,
     pub start: u64,

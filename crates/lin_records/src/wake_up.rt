@@ -13,7 +13,7 @@ const KIND: u32 = headers::LIN_WAKE_UP;
 const BODY: usize = 20;
 
 // What a read is told, the next cursor, and the record: zeros but where it is told of one.
-#[derive(Drop)]
+#[derive(Clone, Copy)]
 pub struct WakeUpRead {
     pub told: ReadAnswer,
     pub next: Cursor,

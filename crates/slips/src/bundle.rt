@@ -11,7 +11,7 @@ pub struct Place {
 }
 
 // The places of the slips, where number is 0; else the bundle is refused by this number at this place.
-#[derive(Drop)]
+#[derive(Clone, Copy)]
 pub struct Bundle {
     pub places: [Place; Bundle::SLIPS],
     pub number: u32,

@@ -6,7 +6,7 @@ ghost use Rattle.slips.specs.Inner.Merge.{compare_at, merged_of};
 use crate::bundle::{Bundle, Place};
 
 // The next entry of a slip beside an object: it starts above it or there is none, it names it, or it is a stray.
-#[derive(Drop)]
+#[derive(Clone, Copy)]
 pub enum Compared {
     Miss,
     Hit,
@@ -14,7 +14,7 @@ pub enum Compared {
 }
 
 // The slips moved past an object: how many named it, and the lowest start of a stray (PAST where there is none).
-#[derive(Drop)]
+#[derive(Clone, Copy)]
 pub struct Merged {
     pub places: [Place; Bundle::SLIPS],
     pub hits: u32,

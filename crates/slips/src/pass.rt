@@ -9,7 +9,7 @@ use crate::merge::{Merged, advance};
 use objects::{Answer, Cursor};
 
 // Accepted with the number of the log's objects, or refused by a number at a place.
-#[derive(Drop)]
+#[derive(Clone, Copy)]
 pub enum Verdict {
     Accepted(usize),
     Refused { number: u32, place: usize },
