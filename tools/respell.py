@@ -6,7 +6,11 @@ usage: tools/respell.py [--dry]     at the top of the repository, once, right af
 A name is the repository's own where a file of specs/ or of proofs/ (not of a function's folder there) gives it a
 signature. `lineOf` and `line-exact` become `line_of` and `line_exact`; types and modules keep their names, and so do
 functions of src/, strings and what Rattle generates. In comments only what stands in backticks is respelt. A name that
-would fall together with another, or that std has too, is printed and gets the ending that KEPT gives it.
+would fall together with another is printed, and KEPT gives it another ending.
+
+It ran once, and stands as it ran, but that its table and the writing of a file are functions now, for respell_pages.py.
+Its look for names that std has too found none, by a mistake in `outside`: the four that there were, `or-true`,
+`and-false` and two lemmas of lin, were mended by hand (docs/PORT.md).
 """
 import os
 import re
@@ -84,6 +88,16 @@ def read(path):
         return f.read()
 
 
+def rewrite(path, turn, dry):
+    """Writes what `turn` makes of a file, unless that is what it has; says whether it is another."""
+    old = read(path)
+    new = turn(old)
+    if new != old and not dry:
+        with open(path, "w", encoding="utf-8") as f:
+            f.write(new)
+    return new != old
+
+
 def outside(text):
     """The names that a file brings in from elsewhere than the repository's own crates."""
     for m in re.finditer(r"\buse ([\w.·'-]+)(?:\.\{([^}]*)\})?", text):
@@ -152,20 +166,14 @@ def main():
         parts = re.split(r"(`[^`]*`)", text)
         return "".join(TOKEN.sub(turn, p) if i % 2 else p for i, p in enumerate(parts))
 
+    def turn_text(text, mark):
+        parts = (code_parts(line, mark) for line in text.split("\n"))
+        return "\n".join(turn_code(code) + turn_comment(comment) for code, comment in parts)
+
     count = 0
     for p in every(root):
-        text = read(p)
         mark = "--" if p.endswith(".antt") else "//"
-        out = []
-        for line in text.split("\n"):
-            code, comment = code_parts(line, mark)
-            out.append(turn_code(code) + turn_comment(comment))
-        new = "\n".join(out)
-        if new != text:
-            count += 1
-            if not dry:
-                with open(p, "w", encoding="utf-8") as f:
-                    f.write(new)
+        count += rewrite(p, lambda text, mark=mark: turn_text(text, mark), dry)
     print(f"respelt {len(turned)} names in {count} files")
 
 

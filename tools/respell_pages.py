@@ -41,15 +41,8 @@ def respelt(dry):
     with tempfile.TemporaryDirectory() as room:
         tarfile.open(fileobj=io.BytesIO(made)).extractall(room, filter="data")
         names = respell.table(room)
-    count = 0
-    for page in PAGES:
-        old = respell.read(page)
-        new = quoted(old, lambda part: respell.TOKEN.sub(lambda m: names.get(m.group(0), m.group(0)), part))
-        if new != old:
-            count += 1
-            if not dry:
-                with open(page, "w", encoding="utf-8") as f:
-                    f.write(new)
+    turn = lambda part: respell.TOKEN.sub(lambda m: names.get(m.group(0), m.group(0)), part)
+    count = sum(respell.rewrite(page, lambda text: quoted(text, turn), dry) for page in PAGES)
     print(f"respelt {count} pages by {len(names)} names")
 
 

@@ -146,7 +146,7 @@ fn else_second(first: &[u8], from: Cursor, number: u32, place: usize) -> Compare
 }
 
 // How many rows there are, or the first refusal.
-pub fn count(first: &[u8], second: &[u8]) -> Compared
+pub(crate) fn count(first: &[u8], second: &[u8]) -> Compared
     ensures { result ≡ count_of first.now second.now }
 {
     let mut c = Cursor::new();
@@ -200,7 +200,7 @@ fn put_row(
 }
 
 // Lists the rows of two well-formed logs, which are so many and have room.
-pub fn fill(
+pub(crate) fn fill(
     first: &[u8],
     second: &[u8],
     rows: usize,
