@@ -8,3 +8,6 @@ pub mod ObjectTests
 pub mod Layout
 pub mod TypeFormat
 pub mod Form
+pub mod Refused
+pub mod Faults
+pub mod Refusals
