@@ -12,3 +12,4 @@ pub mod Bodies
 pub mod Forms
 pub mod BodyTests
 pub mod Reserved
+pub mod Numbered
