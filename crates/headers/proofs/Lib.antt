@@ -14,3 +14,4 @@ pub mod Forms
 pub mod BodyTests
 pub mod Reserved
 pub mod Allowed
+pub mod BeforeBodies
