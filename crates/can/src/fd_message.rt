@@ -84,7 +84,7 @@ pub fn get_fd_message(h: headers::Header, b: &[u8]) -> FdMessage
         bit_count: fields::get8(b, 12),
         fd_flags: fields::get8(b, 13),
         valid_bytes: fields::get8(b, 14),
-        bytes: fields::get8x64(b, 20),
+        bytes: fields::get_bytes(b, 20),
     }
 }
 
@@ -114,6 +114,6 @@ pub fn put_fd_message(out: &mut [u8], at: usize, r: FdMessage)
     };
     put_front(out, at, front);
     put_timing(out, at, r);
-    fields::put8x64(out, at + 20, bytes);
+    fields::put_bytes(out, at + 20, &bytes);
     fields::put_zeros(out, at + 84, 4);
 }

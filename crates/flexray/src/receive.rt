@@ -81,7 +81,7 @@ pub fn get_receive(h: headers::Header, b: &[u8]) -> Receive
     requires { 298 ≤ length b.now }
     ensures { result ≡ receive_of h b.now }
 {
-    let bytes = fields::get8x254(b, 44);
+    let bytes = fields::get_bytes(b, 44);
     Receive {
         header: h,
         channel: fields::get16(b, 0),
@@ -149,5 +149,5 @@ pub fn put_receive(out: &mut [u8], at: usize, r: Receive)
     put_origin(out, at, r);
     put_slot(out, at, r);
     put_controller(out, at, r);
-    fields::put8x254(out, at + 44, bytes);
+    fields::put_bytes(out, at + 44, &bytes);
 }

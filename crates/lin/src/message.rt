@@ -78,8 +78,8 @@ pub fn get_message(h: headers::Header, b: &[u8]) -> Message
     requires { 132 ≤ length b.now }
     ensures { result ≡ message_of h b.now }
 {
-    let stamps = fields::get64x9(b, 40);
-    let bytes = fields::get8x8(b, 112);
+    let stamps = fields::get_numbers(b, 40);
+    let bytes = fields::get_bytes(b, 112);
     let tail = get_tail(b);
     Message {
         header: h,
@@ -160,8 +160,8 @@ pub fn put_message(out: &mut [u8], at: usize, r: Message)
     let tail = r.tail;
     put_synch(out, at, r);
     put_descriptor(out, at + 32, r);
-    fields::put64x9(out, at + 40, stamps);
-    fields::put8x8(out, at + 112, bytes);
+    fields::put_numbers(out, at + 40, stamps);
+    fields::put_bytes(out, at + 112, &bytes);
     put_status(out, at + 120, r);
     put_machines(out, at + 127, r);
     put_tail(out, at + 132, tail);
