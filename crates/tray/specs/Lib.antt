@@ -1,4 +1,3 @@
 pub mod Tray
-pub mod Under
 pub mod Claims
 pub mod Replies
