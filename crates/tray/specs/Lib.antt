@@ -1,3 +1,4 @@
+pub mod Answers
 pub mod Tray
 pub mod Claims
 pub mod Replies
