@@ -5,8 +5,8 @@ use lib.ListN.{length}
 use Rattle.slips.specs.Inner.Pass.{walk_on_of}
 use Rattle.slips.proofs.pass.walk_on.Given as goal
 
-abbrev pub invariant-loop-k : goal.invariant-loop-k
-invariant-loop-k l = walk_on_of l.log l.c.at l.number l.place ≡ walk_on_of l.log l.initial.c.at l.number l.place
+abbrev pub invariant-loop-c : goal.invariant-loop-c
+invariant-loop-c l = walk_on_of l.log l.c.at l.trouble ≡ walk_on_of l.log l.initial.c.at l.trouble
 
-abbrev pub decreases-loop-k : goal.decreases-loop-k
-decreases-loop-k l = length l.log - l.c.at
+abbrev pub decreases-loop-c : goal.decreases-loop-c
+decreases-loop-c l = length l.log - l.c.at
