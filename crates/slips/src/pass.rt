@@ -2,7 +2,7 @@
 ghost use Rattle.std.specs.Prelude.{◌≡◌};
 ghost use Rattle.slips.specs.Check.{check_of};
 ghost use Rattle.slips.specs.Inner.Places.{AllPlaced};
-ghost use Rattle.slips.specs.Inner.Pass.{walk_on_of, at_end_of, merge_log_of};
+ghost use Rattle.slips.specs.Inner.Pass.{at_end_of, merge_log_of};
 
 use crate::bundle::{Place, SLIPS, read};
 use crate::merge::advance;
@@ -18,20 +18,6 @@ const END: Entry = Entry {
     size: 0,
     kind: 0,
 };
-
-// Trouble is met: the walk goes on alone, and the trouble is told where it ends well.
-fn walk_on(log: &[u8], from: Cursor, trouble: Refusal) -> Result<usize, Refusal>
-    ensures { result ≡ walk_on_of log.now from.at trouble }
-{
-    let mut c = from;
-    loop {
-        let step = c.step(log);
-        let Some(_) = step.answer? else {
-            return Err(trouble);
-        };
-        c = step.next;
-    }
-}
 
 // Behind the last of n objects: an entry that is left is stray.
 #[tactic(auto, unfolding(crate::specs::Inner::Pass::at_end_of))]
@@ -60,7 +46,9 @@ fn merge_log(log: &[u8], b: &[u8], places: [Place; SLIPS]) -> Result<usize, Refu
         };
         let merged = advance(slips, b, object);
         if let Some(trouble) = merged.trouble(object.start) {
-            return walk_on(log, step.next, trouble);
+            // It is told where the log behind it is well formed.
+            step.next.walk(log)?;
+            return Err(trouble);
         }
         slips = merged.places;
         n += 1;

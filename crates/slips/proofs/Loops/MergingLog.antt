@@ -7,47 +7,31 @@ use lib.ListN.{length}
 use Rattle.std.specs.Prelude.{Some, Ok, Err}
 use Rattle.std.specs.Prelude as opt
 use Rattle.headers.specs.Refused.{Refused, refusal}
-use Rattle.objects.specs.Answers.{Done, Walked}
+use Rattle.objects.specs.Answers.{Answer, Done, Walked}
+use Rattle.objects.specs.declared.Step.{Step}
 use Rattle.objects.specs.Next.{next_at}
 use Rattle.objects.specs.declared.Entry.{Entry}
 use Rattle.objects.specs.Stepping.{Ended, at_end, refused, no_step_left, met_at, objects_of}
-use Rattle.objects.specs.Walk.{walked_by, walk_of}
-use Rattle.objects.proofs.Naming.{walking_less, met_object, met_done, met_refused, Walking, walking_none, walking_more, walk_done, walk_refused}
+use Rattle.objects.specs.Walk.{walked_by, walk_from, walk_of}
+use Rattle.objects.proofs.Naming.{walking_less, met_object, met_done, Walking, walking_none, walking_more, walk_done, walk_refused}
 use Rattle.slips.specs.declared.bundle.Place.{Place}
 use Rattle.slips.specs.declared.merge.Merged.{Merged}
 use Rattle.slips.specs.Trouble.{Trouble, None, Found}
 use Rattle.slips.specs.Check.{answer_of}
 use Rattle.slips.specs.Inner.Places.{AllPlaced, slips_at}
 use Rattle.slips.specs.Inner.Merge.{the_end, merged_of, trouble_at, refused_by, or_later, merge_of}
-use Rattle.slips.specs.Inner.Pass.{walk_on_of, at_end_of, merge_log_of}
+use Rattle.slips.specs.Inner.Pass.{at_end_of, merge_log_of}
 use Rattle.slips.proofs.Loops.Standing.{Turned, turned}
 
--- the rest of a walk, with a trouble in hand
+-- with trouble in hand, what a walk tells does not hang on how many objects it has met
+any : (e : Ended) (n m k x : ℕ) → answer_of (walked_by e n) (Found k x) ≡ answer_of (walked_by e m) (Found k x)
+any at_end n m k x = refl
+any (refused j p) n m k x = refl
+any no_step_left n m k x = refl
 
-module _ (s : List ℕ) (t : Refused) where
-  -- what it tells does not hang on the objects behind it
-  any : (e : Ended) (n m : ℕ) → answer_of (walked_by e n) (Found t.number t.place) ≡ answer_of (walked_by e m) (Found t.number t.place)
-  any at_end n m = refl
-  any (refused j p) n m = refl
-  any no_step_left n m = refl
-
-  -- so it is what the whole walk tells
-  walk_on_whole : (at n : ℕ) → Walking s at n → walk_on_of s at t ≡ answer_of (walk_of s) (Found t.number t.place)
-  unfolding walk_on_of
-  walk_on_whole at n w = any (met_at s at).ended 0 _ ∙ ap (λ (v : Walked). answer_of v (Found t.number t.place)) w.same
-
-  module _ (at : ℕ) where
-    pub walk_on_done : (next_at s at).answer ≡ Done → Err t ≡ walk_on_of s at t
-    unfolding walk_on_of
-    walk_on_done e = rw (met_done s at e)
-
-    pub walk_on_refused : {r : Refused} → (next_at s at).answer ≡ Err r → Err r ≡ walk_on_of s at t
-    unfolding walk_on_of
-    walk_on_refused e = rw (met_refused s at e)
-
-    pub walk_on_more : (o : Entry) → (next_at s at).answer ≡ Ok (Some o) → walk_on_of s (next_at s at).next.at t ≡ walk_on_of s at t
-    unfolding walk_on_of
-    walk_on_more o e = rw (met_object s at o e)
+-- equal steps answer the same
+pub stepped : {x y : Step} → x ≡ y → {a : Answer} → x.answer ≡ a → y.answer ≡ a
+stepped q e = ap (λ (y : Step). y.answer) (sym q) ∙ e
 
 -- the walk and the merge: what is left of both gives what the whole gives
 pub record MergingLog (s b : List ℕ) (ps₀ : List Place) (at n : ℕ) (ps : List Place) : Type 0 where
@@ -81,16 +65,17 @@ module _ (s b : List ℕ) (ps₀ : List Place) (at n : ℕ) (ps : List Place) (w
     here : merge_of (objects_of s) (slips_at b ps₀) ≡ or_later (trouble_at o.start m.low m.hits) (merge_of (met_at s (next_at s at).next.at).objects (slips_at b m.places))
     here = sym w.same ∙ rw (met_object s at o e, t.lowest, t.hit, t.moved)
 
-    -- trouble here: what is told is what the rest of the walk lets through
     found : (u : Trouble) (r : Refused) → trouble_at o.start m.low m.hits ≡ u → Some r ≡ refused_by u → u ≡ Found r.number r.place
     found None r e q = absurd cc
     found (Found k x) r e q = let i : r ≡ refusal k x = cc in rw i
 
-    pub merge_trouble : (r : Refused) → Some r ≡ refused_by (trouble_at o.start m.low m.hits) → walk_on_of s (next_at s at).next.at r ≡ merge_log_of s b ps₀
-    unfolding merge_log_of
-    merge_trouble r z =
+    -- trouble here: what is told is what the rest of the walk lets through
+    pub merge_trouble : (r : Refused) → Some r ≡ refused_by (trouble_at o.start m.low m.hits) → (v : Walked) → v ≡ walk_from s (next_at s at).next.at
+        → answer_of v (Found r.number r.place) ≡ merge_log_of s b ps₀
+    unfolding merge_log_of walk_of
+    merge_trouble r z v q =
         let f : merge_of (objects_of s) (slips_at b ps₀) ≡ Found r.number r.place = here ∙ rw (found _ r refl z) in
-        rw f (walk_on_whole s r (next_at s at).next.at (n + 1) walk_next)
+        rw (f, q) (any (met_at s (next_at s at).next.at).ended _ _ _ _ ∙ ap (λ (w : Walked). answer_of w (Found r.number r.place)) walk_next.walk.same)
 
     -- no trouble
     clear : (u : Trouble) → opt.None ≡ refused_by u → u ≡ None
