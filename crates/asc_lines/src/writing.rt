@@ -1,9 +1,8 @@
 // The line of what is told, written to a buffer's end: each function puts its text before a place and answers where the
 // text starts, the inner ones also how far before that can be. No line has more than 231 bytes, whatever is told; the
 // longest that a record has are 134.
-ghost use Rattle.std.specs.Prelude.{◌+◌, ◌≤◌, length, take};
+ghost use Rattle.std.specs.Prelude.{◌+◌, ◌≤◌, length};
 ghost use Rattle.digits.specs.Text.{Said};
-ghost use Rattle.digits.specs.Pairs.{pairs};
 ghost use Rattle.asc_lines.specs.Lines.{head_of, id_of, frame_of, load_of, frames_of, counts_of, rest_of, line_of};
 
 use crate::told::{Counts, Frame, Head, Kind, Told, shown};
@@ -30,14 +29,6 @@ fn put_id(f: Frame, out: &mut [u8], end: usize) -> usize
     digits::put(b" ", out, b)
 }
 
-// The first k bytes.
-fn put_shown(bytes: [u8; 8], k: usize, out: &mut [u8], end: usize) -> usize
-    requires { (k ≤ 8) × (24 ≤ end) × (end ≤ length out.old) }
-    ensures { Said result (pairs (take k bytes)) out.old out.new end × (end ≤ result + 24) }
-{
-    digits::put_pairs(&bytes, k, out, end)
-}
-
 // ` Rx d DLC BYTES`
 fn put_frame(f: Frame, out: &mut [u8], end: usize) -> usize
     requires { (50 ≤ end) × (end ≤ length out.old) }
@@ -45,7 +36,8 @@ fn put_frame(f: Frame, out: &mut [u8], end: usize) -> usize
 {
     let sort = if f.remote { b" r " } else { b" d " };
     let way = if f.sent { b" Tx" } else { b" Rx" };
-    let a = put_shown(f.bytes, shown(f.remote, f.dlc), out, end);
+    let bytes = &f.bytes[..shown(f.remote, f.dlc)];
+    let a = digits::put_pairs(bytes, out, end);
     let b = digits::decimal(f.dlc as u64, out, a);
     let c = digits::put(sort, out, b);
     digits::put(way, out, c)

@@ -12,4 +12,4 @@ returns c =
     let f = c.args.f in
     let sort : c.if-f.sort.now ≡ sort_of f.remote = elim c.if-f.branch [ then-f w ↦ rw (w.sort-is, w.if-f.true) | else-f w ↦ rw (w.sort-is, w.if-f.false) ] in
     let way : c.if-f-2.way'.now ≡ way_of f.sent = elim c.if-f-2.branch [ then-f-2 w ↦ rw (w.way'-is, w.if-f-2.true) | else-f-2 w ↦ rw (w.way'-is, w.if-f-2.false) ] in
-    (rw (← way, ← sort, ← c.shown.ensures.0) (four c.put_shown-a.ensures.0 c.decimal-b.ensures.0 c.put-c.ensures.0 c.put.ensures.0), omega arith)
+    (rw (← way, ← sort, ← c.shown.ensures.0) (four c.put_pairs-a.ensures.0 c.decimal-b.ensures.0 c.put-c.ensures.0 c.put.ensures.0), omega arith)
