@@ -103,9 +103,9 @@ fn possible(seconds: u64, nanos: u32) -> bool
     ensures { result ≡ possible_time seconds nanos }
 {
     let over = nanos as u64;
-    over < 1000000000
-        && (seconds <= (18446744073709551615 - over) / 1000000000
-            || over % 10000 == 0 && seconds <= (18446744073709551615 - over / 10000) / 100000)
+    over < 1_000_000_000
+        && (seconds <= (u64::MAX - over) / 1_000_000_000
+            || over % 10_000 == 0 && seconds <= (u64::MAX - over / 10_000) / 100_000)
 }
 
 // What a line tells; none where the text is no line.
