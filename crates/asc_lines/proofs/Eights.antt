@@ -14,7 +14,7 @@ use Rattle.asc_lines.specs.Told.{no_frame, kind_frame, of_message, of_overload, 
 use Rattle.asc_lines.specs.Reading.{stands, head_in, head_end, dlc_in, frame_in, counts_in, candidate, possible_time, same, line_in}
 use Rattle.asc_lines.proofs.Parsing.{shown_most}
 
-filled_eight : (k : ℕ) (s : List ℕ) (at : ℕ) → k ≤ 8 → length (filled k s at) ≡ 8
+pub filled_eight : (k : ℕ) (s : List ℕ) (at : ℕ) → k ≤ 8 → length (filled k s at) ≡ 8
 unfolding filled
 filled_eight k s at h = length-append (bytes_in k s at) (replicate (8 - k) 0) ∙ rw (length_bytes, length-replicate) (omega arith)
 
