@@ -3,6 +3,7 @@ pub mod TypeBounds
 pub mod TypeSearch
 pub mod TypeKinds
 pub mod Objects
+pub mod Numbers
 pub mod Heads
 pub mod Pairs
 pub mod Origins

@@ -1,36 +1,37 @@
--- An answer taken apart by its tag, as `let .. else` and `match` leave it. Assumes nothing.
-use mathlib.Core.Path.{◌≡◌, refl}
-use mathlib.Core.Logic.{⊎_elim}
-use mathlib.Core.List.{List, [], ◌∷◌}
+-- Answers that are equal tell the same. Assumes nothing.
+use mathlib.Core.Path.{◌≡◌, ap}
 use Prim.Native.Nat.{ℕ}
-use native.Mathlib.Omega.{arith}
-use package.types.Run.{OneOf}
-use denote.Enum.Declared.{tag_of}
-use Rattle.objects.specs.contracts.Answer.{the_type}
-use Rattle.objects.specs.declared.Answer.{Answer}
-use Rattle.objects.specs.declared.Answer.TheVariants.{Object, Done, Refused}
-use Rattle.objects.specs.Views.{object_in}
+use Rattle.std.specs.Prelude.{Some, Result, Ok, Err}
+use Rattle.headers.specs.Refused as told
+use Rattle.objects.specs.Answers.{Answer, Object, Done, Refused}
 
--- the answer is an object
-pub record Objected (a : Answer) : Type 0 where
-  pub start : ℕ
-  pub size : ℕ
-  pub kind : ℕ
-  pub is : a ≡ Object start size kind
+start_of : Answer → ℕ
+start_of (Ok (Some o)) = o.start
+start_of Done = 0
+start_of (Err r) = 0
 
-pub objected : (a : Answer) → OneOf (0 ∷ []) (tag_of the_type a) → Objected a
-objected (Object start size kind) q = record { start = start; size = size; kind = kind; is = refl }
-objected Done q = absurd (omega arith)
-objected (Refused number place) q = absurd (omega arith)
+size_of : Answer → ℕ
+size_of (Ok (Some o)) = o.size
+size_of Done = 0
+size_of (Err r) = 0
 
--- neither an object nor a refusal: done
-pub left : (a : Answer) → OneOf (0 ∷ 1 ∷ []) (tag_of the_type a) → OneOf (1 ∷ 2 ∷ []) (tag_of the_type a) → a ≡ Done
-left (Object start size kind) p q = absurd (⊎_elim (λ w. omega arith) (λ w. omega arith) q)
-left Done p q = refl
-left (Refused number place) p q = absurd (⊎_elim (λ w. omega arith) (λ w. omega arith) p)
+kind_of : Answer → ℕ
+kind_of (Ok (Some o)) = o.kind
+kind_of Done = 0
+kind_of (Err r) = 0
 
--- no object: no view
-pub no_object : (s : List ℕ) (a : Answer) → OneOf (1 ∷ 2 ∷ []) (tag_of the_type a) → [] ≡ object_in s a
-no_object s (Object start size kind) q = absurd (⊎_elim (λ w. omega arith) (λ w. omega arith) q)
-no_object s Done q = refl
-no_object s (Refused number place) q = refl
+pub same_object : {a b m n j k : ℕ} → Object a m j ≡ Object b n k → (a ≡ b) × (m ≡ n) × (j ≡ k)
+unfolding start_of size_of kind_of
+same_object e = (ap start_of e, ap size_of e, ap kind_of e)
+
+number_of : {A : Type 0} → Result A told.Refused → ℕ
+number_of (Ok a) = 0
+number_of (Err r) = r.number
+
+place_of : {A : Type 0} → Result A told.Refused → ℕ
+place_of (Ok a) = 0
+place_of (Err r) = r.place
+
+pub same_refusal : {A : Type 0} {m n p q : ℕ} → ◌≡◌ {A = Result A told.Refused} (Refused m p) (Refused n q) → (m ≡ n) × (p ≡ q)
+unfolding number_of place_of
+same_refusal e = (ap number_of e, ap place_of e)

@@ -1,11 +1,12 @@
 pub mod Kinds
 pub mod Table
+pub mod Named
+pub mod Answers
 pub mod Next
 pub mod Places
 pub mod Walk
 pub mod Replies
 pub mod Logs
-pub mod Named
 pub mod Rising
 pub mod Views
 pub mod Faults
