@@ -14,8 +14,8 @@ use Rattle.std.specs.Option.{ok_or}
 use Rattle.headers.specs.Refused.{refusal}
 use Rattle.headers.specs.Format.{unit_ok}
 use Rattle.objects.specs.Items.{Valid}
-use Rattle.outcomes.specs.declared.Written.{Written}
-use Rattle.outcomes.specs.declared.Written.TheVariants.{Used}
+use Rattle.outcomes.specs.Answers.{Written}
+use Rattle.outcomes.specs.Answers.{Used}
 use Rattle.outcomes.specs.Writes.{answer_of, buffer_of}
 use Rattle.asc_lines.specs.declared.told.Told.{Told}
 use Rattle.asc_lines.specs.Lines.{line_of}

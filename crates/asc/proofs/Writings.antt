@@ -1,5 +1,5 @@
 -- What writing a line answers, in each way. Assumes nothing.
-use mathlib.Core.Path.{◌≡◌, refl, ap, ◌∙◌, subst}
+use mathlib.Core.Path.{◌≡◌, refl, subst}
 use mathlib.Core.Bool.{Bool, true, false}
 use mathlib.Core.List.{List}
 use Prim.Native.Nat.{ℕ, ◌≤◌, ◌<◌}
@@ -11,8 +11,8 @@ use Rattle.fields.proofs.Writing.{front}
 use Rattle.headers.specs.Format.{unit_ok}
 use Rattle.headers.specs.HeadTests.{first}
 use Rattle.objects.specs.Items.{Valid}
-use Rattle.outcomes.specs.declared.Written.{Written}
-use Rattle.outcomes.specs.declared.Written.TheVariants.{Used, Refused}
+use Rattle.outcomes.specs.Answers.{Written}
+use Rattle.outcomes.specs.Answers.{Used, Refused}
 use Rattle.asc_lines.specs.declared.told.Told.{Told}
 use Rattle.asc_lines.specs.Lines.{line_of}
 use Rattle.asc.specs.Tells.{Event, tells}

@@ -1,5 +1,5 @@
 -- W-201: what a line at a place of a log and a line read answer, by number and values.
-use Rattle.std.specs.Prelude.{ℕ, Bool, cond, Result, Ok, Err, List, [], ◌∷◌, ◌++◌, replicate}
+use Rattle.std.specs.Prelude.{ℕ, Bool, cond, Option, Some, None, Result, Ok, Err, List, [], ◌∷◌, ◌++◌, replicate}
 use Rattle.objects.specs.Replies.{Reply, success, done, refused}
 use Rattle.asc_lines.specs.declared.told.Head.{Head}
 use Rattle.asc_lines.specs.declared.told.Frame.{Frame}
@@ -7,14 +7,12 @@ use Rattle.asc_lines.specs.declared.told.Counts.{Counts}
 use Rattle.asc_lines.specs.declared.told.Told.{Told}
 use Rattle.asc_lines.specs.Told.{kind_number, kind_frame, kind_counts}
 use Rattle.headers.specs.Refused.{Refused}
-use Rattle.asc.specs.declared.at_cursor.LineAt.{LineAt}
-use Rattle.asc.specs.declared.at_cursor.LineAt.TheVariants as line
 
 -- the line's bytes
-abbrev pub line_reply : LineAt → Reply
-line_reply (line.Line n) = success (n ∷ [])
-line_reply line.Done = done
-line_reply (line.Refused number place) = refused number place
+abbrev pub line_reply : Result (Option ℕ) Refused → Reply
+line_reply (Ok (Some n)) = success (n ∷ [])
+line_reply (Ok None) = done
+line_reply (Err r) = refused r.number r.place
 
 abbrev pub bit : Bool → ℕ
 bit b = cond b 1 0

@@ -6,7 +6,7 @@ use Rattle.headers.specs.Format.{unit_ok}
 use Rattle.headers.specs.HeadTests.{first}
 use Rattle.headers.specs.Types as kind
 use Rattle.objects.specs.Items.{Item, known, Valid}
-use Rattle.outcomes.specs.declared.Written.{Written}
+use Rattle.outcomes.specs.Answers.{Written}
 use Rattle.outcomes.specs.Writes.{answer_of, buffer_of}
 use Rattle.asc_lines.specs.declared.told.Told.{Told}
 use Rattle.asc_lines.specs.Lines.{line_of}

@@ -10,8 +10,8 @@ ghost use Rattle.std.specs.Prelude.{◌≡◌};
 ghost use Rattle.asc.specs.Lines.{line_read};
 
 use asc_lines::Told;
+pub use at_cursor::{LineStep, line_at};
 use headers::{Fault, Refusal};
-pub use at_cursor::{LineAt, LineStep, line_at};
 pub use object::object_line;
 pub use record::{message_line, overload_line, statistic_line};
 

@@ -5,7 +5,7 @@ ghost use Rattle.asc.specs.Objects.{event_as, event_in};
 ghost use Rattle.asc.specs.Writes.{none, LineOutcome};
 
 use crate::record::{message_line, overload_line, statistic_line};
-use outcomes::Written;
+use headers::Refusal;
 
 // Whether the line of these bytes is that of their type: of type 1, 3 or 4, whether they are exactly one object, the
 // unit aside.
@@ -36,7 +36,7 @@ fn is_whole(o: &[u8]) -> bool
 }
 
 // Writes the line of an object's record by its type; nothing for other types.
-pub(crate) fn line_as(kind: u32, o: &[u8], out: &mut [u8]) -> Written
+pub(crate) fn line_as(kind: u32, o: &[u8], out: &mut [u8]) -> Result<usize, Refusal>
     ensures { LineOutcome (event_as kind o.now) result out.old out.new }
 {
     if kind == headers::CAN_MESSAGE {
@@ -48,16 +48,16 @@ pub(crate) fn line_as(kind: u32, o: &[u8], out: &mut [u8]) -> Written
     if kind == headers::CAN_STATISTIC {
         return statistic_line(can_records::statistic_in(o), out);
     }
-    Written::Used(0)
+    Ok(0)
 }
 
 // Writes the line of the object that the bytes are, without padding: nothing, and no refusal, where they are no object
 // or one of another type.
-pub fn object_line(o: &[u8], out: &mut [u8]) -> Written
+pub fn object_line(o: &[u8], out: &mut [u8]) -> Result<usize, Refusal>
     ensures { LineOutcome (event_in o.now) result out.old out.new }
 {
     if !is_whole(o) {
-        return Written::Used(0);
+        return Ok(0);
     }
     line_as(fields::get32(o, 12), o, out)
 }

@@ -5,32 +5,25 @@ ghost use Rattle.asc.specs.Writes.{one, LineOutcome, Put, Copied};
 
 use crate::tells::{counts_told, frame_told, head_told};
 use asc_lines::{Kind, Told};
-use headers::Header;
-use outcomes::Written;
+use headers::{Fault, Header, Refusal};
 
 // Copies a line to the front of a buffer, or refuses with 10.
-fn copy_line(line: &[u8], out: &mut [u8]) -> Written
+fn copy_line(line: &[u8], out: &mut [u8]) -> Result<usize, Refusal>
     ensures { Copied line.now result out.old out.new }
 {
     if out.len() < line.len() {
-        return Written::Refused {
-            number: 10,
-            place: 0,
-        };
+        return Err(Fault::Room.at(0));
     }
     fields::put_bytes(out, 0, line);
-    Written::Used(line.len())
+    Ok(line.len())
 }
 
 // Writes the line of what is told at a header's time.
-fn put_told(h: Header, channel: u16, kind: Kind, out: &mut [u8]) -> Written
+fn put_told(h: Header, channel: u16, kind: Kind, out: &mut [u8]) -> Result<usize, Refusal>
     ensures { Put h.unit (record { head = head_told h channel; kind = kind }) result out.old out.new }
 {
     if !headers::unit_ok(h.unit) {
-        return Written::Refused {
-            number: 7,
-            place: 0,
-        };
+        return Err(Fault::Unit.at(0));
     }
     let head = head_told(h, channel);
     let mut line = [0u8; 256];
@@ -39,21 +32,21 @@ fn put_told(h: Header, channel: u16, kind: Kind, out: &mut [u8]) -> Written
 }
 
 // Writes the line of a message.
-pub fn message_line(r: can::Message, out: &mut [u8]) -> Written
+pub fn message_line(r: can::Message, out: &mut [u8]) -> Result<usize, Refusal>
     ensures { LineOutcome (one (message r)) result out.old out.new }
 {
     put_told(r.header, r.channel, Kind::Message(frame_told(r)), out)
 }
 
 // Writes the line of an overload.
-pub fn overload_line(r: can::Overload, out: &mut [u8]) -> Written
+pub fn overload_line(r: can::Overload, out: &mut [u8]) -> Result<usize, Refusal>
     ensures { LineOutcome (one (overload r)) result out.old out.new }
 {
     put_told(r.header, r.channel, Kind::Overload, out)
 }
 
 // Writes the line of a statistic.
-pub fn statistic_line(r: can::Statistic, out: &mut [u8]) -> Written
+pub fn statistic_line(r: can::Statistic, out: &mut [u8]) -> Result<usize, Refusal>
     ensures { LineOutcome (one (statistic r)) result out.old out.new }
 {
     put_told(r.header, r.channel, Kind::Statistic(counts_told(r)), out)

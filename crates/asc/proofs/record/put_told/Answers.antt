@@ -9,7 +9,7 @@ use Rattle.asc.proofs.Writings.{unit_refused, unit_taken}
 use Rattle.asc.proofs.record.put_told.Goals as goal
 
 pub returns-then-not-unit_ok : goal.returns-then-not-unit_ok
-returns-then-not-unit_ok c = unit_refused _ _ (sym c.unit_ok.ensures ∙ c.if-not-unit_ok.true)
+returns-then-not-unit_ok c = rw c.at.ensures (unit_refused _ _ (sym c.unit_ok.ensures ∙ c.if-not-unit_ok.true))
 
 pub returns : goal.returns
 returns c =

@@ -1,10 +1,8 @@
 -- `asc::tells::frame_told` meets its contract: field by field; the bytes in the line are kept. Assumes nothing.
 use borrow.Author.Rules.{rules}
-use mathlib.Core.Path.{◌≡◌, ap, ◌∙◌}
-use Prim.Native.Nat.{ℕ, ◌-◌, ◌%◌}
+use mathlib.Core.Path.{ap, ◌∙◌}
+use Prim.Native.Nat.{ℕ, ◌%◌}
 use lib.Dec.{leb}
-use borrow.Rule.Slice.PartMut.{put_mid}
-use Rattle.asc_lines.specs.Told.{shown}
 use Rattle.asc.specs.Tells.{is_sent, is_remote, kept, frame_told}
 use Rattle.asc.proofs.ToldOfRecord.{blanked}
 use Rattle.asc.proofs.tells.frame_told.Goals as goal
