@@ -1,6 +1,6 @@
 -- W-201: the line of an object, given as its bytes or standing in a log. Bytes that are no object, and other types,
 -- have none, whatever their unit and the room; in a log the step's own answer comes first.
-use Rattle.std.specs.Prelude.{ℕ, Bool, cond, ◌&&◌, Some, None, Ok, Err, List, length, eqb, leb}
+use Rattle.std.specs.Prelude.{ℕ, Bool, cond, ◌&&◌, Option, Some, None, Ok, Err, List, length, eqb, leb}
 use Rattle.headers.specs.Format.{head_size, size_at, kind_at}
 use Rattle.headers.specs.HeadTests.{head_fault}
 use Rattle.headers.specs.Types.{number_of}
@@ -35,6 +35,11 @@ event_as n o =
 -- the event that bytes are: `event_exact` of proofs/Events
 unfoldable pub event_in : List ℕ → Found
 event_in o = cond (whole o) (event_as (kind_at o) o) none
+
+-- the same by the type that a test has found
+abbrev pub found : Option ℕ → List ℕ → Found
+found (Some n) o = event_as n o
+found None o = none
 
 -- at a place of a log: the step's own done and refusal; else what the object's line gives, and behind a refusal the
 -- cursor is as it was
