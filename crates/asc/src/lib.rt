@@ -2,6 +2,7 @@
 #![tactic(auto)]
 
 mod at_cursor;
+mod numbers;
 mod object;
 mod record;
 mod tells;
@@ -12,6 +13,7 @@ ghost use Rattle.asc.specs.Lines.{line_read};
 use asc_lines::Told;
 pub use at_cursor::{LineStep, line_at};
 use headers::{Fault, Refusal};
+pub use numbers::told_numbers;
 pub use object::object_line;
 pub use record::{message_line, overload_line, statistic_line};
 
