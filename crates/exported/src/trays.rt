@@ -12,10 +12,10 @@ use tray::{Common, TrayAnswer, Trayed};
 fn tell_tray(out: &mut [u64], t: Trayed) -> u32
     ensures { reply result out.new ≡ lent (filled_reply t) out.old }
 {
-    let answer = t.answer;
-    match answer {
-        TrayAnswer::All => tell(out, 0, t.written),
-        TrayAnswer::Refused { number, place: _ } => tell(out, number, t.written),
+    let written = t.written as u64;
+    match t.answer {
+        TrayAnswer::All => tell(out, 0, [written]),
+        TrayAnswer::Refused { number, place: _ } => tell(out, number, [written]),
     }
 }
 
