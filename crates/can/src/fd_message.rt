@@ -4,11 +4,13 @@ ghost use Rattle.fields.specs.Written.{Wrote};
 ghost use Rattle.fields.specs.Slots.{bytes_of};
 ghost use Rattle.fields.specs.Rules.{shifted};
 ghost use Rattle.fields.specs.Wrong.{wrong_byte, wrong_field};
+ghost use Rattle.headers.specs.Faults.{tested};
 ghost use Rattle.headers.specs.Form.{body_fault};
 ghost use Rattle.can.specs.Tables.{timing_slots, fd_message_slots};
 ghost use Rattle.can.specs.Fields.{fd_message_of, most_valid, fd_message_format};
 
 use crate::front::{Front, get_front, put_front};
+use headers::Fault;
 
 #[derive(Clone, Copy)]
 pub struct FdMessage {
@@ -34,16 +36,19 @@ pub fn valid_ok(valid: u8) -> bool
     valid <= 64
 }
 
-// What refuses the body of a CAN FD message: 8, 9, or 0 for nothing.
-pub fn fd_message_fault(b: &[u8]) -> u32
+// What refuses the body of a CAN FD message: 8 or 9.
+#[tactic(auto, unfolding(headers::specs::Form::body_fault, headers::specs::HeadTests::first))]
+pub fn fd_message_fault(b: &[u8]) -> Result<(), Fault>
     requires { 88 ≤ length b.now }
-    ensures { result ≡ body_fault fd_message_format b.now }
+    ensures { tested result ≡ body_fault fd_message_format b.now }
 {
-    let before_data = fields::all_zero(b, 15, 5);
-    let after_data = fields::all_zero(b, 84, 4);
-    let valid = valid_ok(fields::get8(b, 14));
-    let later = headers::first(8, after_data, headers::first(9, valid, 0));
-    headers::first(8, before_data, later)
+    if !fields::all_zero(b, 15, 5) || !fields::all_zero(b, 84, 4) {
+        return Err(Fault::Reserved);
+    }
+    if !valid_ok(fields::get8(b, 14)) {
+        return Err(Fault::Content);
+    }
+    Ok(())
 }
 
 // The place of the first reserved byte that is not zero, or 0, in an object whose header is so long.
@@ -79,7 +84,7 @@ pub fn get_fd_message(h: headers::Header, b: &[u8]) -> FdMessage
         bit_count: fields::get8(b, 12),
         fd_flags: fields::get8(b, 13),
         valid_bytes: fields::get8(b, 14),
-        bytes: fields::get8x64(b, 20),
+        bytes: fields::get_bytes(b, 20),
     }
 }
 
@@ -109,6 +114,6 @@ pub fn put_fd_message(out: &mut [u8], at: usize, r: FdMessage)
     };
     put_front(out, at, front);
     put_timing(out, at, r);
-    fields::put8x64(out, at + 20, bytes);
+    fields::put_bytes(out, at + 20, &bytes);
     fields::put_zeros(out, at + 84, 4);
 }

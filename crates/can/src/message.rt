@@ -29,7 +29,7 @@ pub fn get_message(h: headers::Header, b: &[u8]) -> Message
         flags: f.flags,
         dlc: f.dlc,
         id: f.id,
-        bytes: fields::get8x8(b, 8),
+        bytes: fields::get_bytes(b, 8),
     }
 }
 
@@ -46,5 +46,5 @@ pub fn put_message(out: &mut [u8], at: usize, r: Message)
         id: r.id,
     };
     put_front(out, at, front);
-    fields::put8x8(out, at + 8, bytes);
+    fields::put_bytes(out, at + 8, &bytes);
 }

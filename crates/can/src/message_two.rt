@@ -4,11 +4,13 @@ ghost use Rattle.fields.specs.Written.{Wrote};
 ghost use Rattle.fields.specs.Slots.{bytes_of};
 ghost use Rattle.fields.specs.Rules.{shifted};
 ghost use Rattle.fields.specs.Wrong.{wrong_byte};
+ghost use Rattle.headers.specs.Faults.{tested};
 ghost use Rattle.headers.specs.Form.{body_fault};
 ghost use Rattle.can.specs.Tables.{message_two_slots};
 ghost use Rattle.can.specs.Fields.{message_two_of, message_two_format};
 
 use crate::message::{Message, get_message, put_message};
+use headers::Fault;
 
 #[derive(Clone, Copy)]
 pub struct MessageTwo {
@@ -18,12 +20,16 @@ pub struct MessageTwo {
     pub bit_count: u8,
 }
 
-// What refuses the body of a message 2: 8, or 0 for nothing.
-pub fn message_two_fault(b: &[u8]) -> u32
+// What refuses the body of a message 2: 8.
+#[tactic(auto, unfolding(headers::specs::Form::body_fault, headers::specs::HeadTests::first))]
+pub fn message_two_fault(b: &[u8]) -> Result<(), Fault>
     requires { 24 ≤ length b.now }
-    ensures { result ≡ body_fault message_two_format b.now }
+    ensures { tested result ≡ body_fault message_two_format b.now }
 {
-    headers::first(8, fields::all_zero(b, 21, 3), 0)
+    if !fields::all_zero(b, 21, 3) {
+        return Err(Fault::Reserved);
+    }
+    Ok(())
 }
 
 // The place of the first reserved byte that is not zero, or 0, in an object whose header is so long.

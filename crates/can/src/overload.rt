@@ -4,9 +4,12 @@ ghost use Rattle.fields.specs.Written.{Wrote};
 ghost use Rattle.fields.specs.Slots.{bytes_of};
 ghost use Rattle.fields.specs.Rules.{shifted};
 ghost use Rattle.fields.specs.Wrong.{wrong_byte};
+ghost use Rattle.headers.specs.Faults.{tested};
 ghost use Rattle.headers.specs.Form.{body_fault};
 ghost use Rattle.can.specs.Tables.{overload_slots};
 ghost use Rattle.can.specs.Fields.{overload_of, overload_format};
+
+use headers::Fault;
 
 #[derive(Clone, Copy)]
 pub struct Overload {
@@ -14,12 +17,16 @@ pub struct Overload {
     pub channel: u16,
 }
 
-// What refuses the body of an overload: 8, or 0 for nothing.
-pub fn overload_fault(b: &[u8]) -> u32
+// What refuses the body of an overload: 8.
+#[tactic(auto, unfolding(headers::specs::Form::body_fault, headers::specs::HeadTests::first))]
+pub fn overload_fault(b: &[u8]) -> Result<(), Fault>
     requires { 4 ≤ length b.now }
-    ensures { result ≡ body_fault overload_format b.now }
+    ensures { tested result ≡ body_fault overload_format b.now }
 {
-    headers::first(8, fields::all_zero(b, 2, 2), 0)
+    if !fields::all_zero(b, 2, 2) {
+        return Err(Fault::Reserved);
+    }
+    Ok(())
 }
 
 // The place of the first reserved byte that is not zero, or 0, in an object whose header is so long.

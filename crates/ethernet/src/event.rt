@@ -1,23 +1,44 @@
 // What a frame and an error have in common: the whole body, but for the meaning of the four bytes at 28.
-ghost use Rattle.std.specs.Prelude.{◌≡◌, ◌+◌, ◌≤◌, length};
+ghost use Rattle.std.specs.Prelude.{◌≡◌, ◌+◌, ◌-◌, ◌≤◌, length, eqb};
+ghost use Rattle.fields.specs.Numbers.{num};
 ghost use Rattle.fields.specs.Rules.{each_right};
 ghost use Rattle.fields.specs.Written.{Wrote};
 ghost use Rattle.fields.specs.Slots.{number, bytes_of};
 ghost use Rattle.fields.specs.Wrong.{wrong_field};
+ghost use Rattle.headers.specs.Faults.{tested};
 ghost use Rattle.headers.specs.HeadTests.{first};
 ghost use Rattle.ethernet.specs.Fields.{structure_length, longest_frame, length_rules};
 ghost use Rattle.ethernet.specs.Tables.{origin_slots, transmission_slots, event_slots};
 
 use crate::frame::Frame;
+use headers::Fault;
 
-// What refuses the two lengths in a body: 9, or 0 for nothing.
-pub fn length_fault(b: &[u8]) -> u32
+// Whether the structure length in a body is right.
+fn structure_right(b: &[u8]) -> bool
     requires { structure_length ≤ length b.now }
-    ensures { result ≡ first 9 (each_right (length_rules b.now)) 0 }
+    ensures { result ≡ eqb (num 2 b.now 0) structure_length }
 {
-    let structure = fields::get16(b, 0) as usize == Frame::LENGTH;
-    let frame = fields::get16(b, 22) as usize == b.len() - Frame::LENGTH;
-    headers::first(9, structure, headers::first(9, frame, 0))
+    fields::get16(b, 0) as usize == Frame::LENGTH
+}
+
+// Whether the frame length in a body is right.
+fn frame_right(b: &[u8]) -> bool
+    requires { structure_length ≤ length b.now }
+    ensures { result ≡ eqb (num 2 b.now 22) (length b.now - structure_length) }
+{
+    fields::get16(b, 22) as usize == b.len() - Frame::LENGTH
+}
+
+// What refuses the two lengths in a body: 9.
+#[tactic(auto, unfolding(headers::specs::Form::body_fault, headers::specs::HeadTests::first))]
+pub fn length_fault(b: &[u8]) -> Result<(), Fault>
+    requires { structure_length ≤ length b.now }
+    ensures { tested result ≡ first 9 (each_right (length_rules b.now)) 0 }
+{
+    if !structure_right(b) || !frame_right(b) {
+        return Err(Fault::Content);
+    }
+    Ok(())
 }
 
 // The place in a body of the first of the two lengths that is wrong, structure length or frame length; else 0.
@@ -25,9 +46,11 @@ pub fn wrong_length(b: &[u8]) -> usize
     requires { structure_length ≤ length b.now }
     ensures { result ≡ wrong_field (length_rules b.now) }
 {
-    let structure = fields::get16(b, 0) as usize == Frame::LENGTH;
-    let frame = fields::get16(b, 22) as usize == b.len() - Frame::LENGTH;
-    fields::wrong_field(structure, 0, fields::wrong_field(frame, 22, 0))
+    fields::wrong_field(
+        structure_right(b),
+        0,
+        fields::wrong_field(frame_right(b), 22, 0),
+    )
 }
 
 fn put_origin(out: &mut [u8], at: usize, r: Frame)

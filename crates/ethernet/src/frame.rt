@@ -4,11 +4,13 @@ ghost use Rattle.fields.specs.Written.{Wrote};
 ghost use Rattle.fields.specs.Slots.{bytes_of};
 ghost use Rattle.fields.specs.Rules.{shifted};
 ghost use Rattle.fields.specs.Wrong.{wrong_byte};
+ghost use Rattle.headers.specs.Faults.{tested};
 ghost use Rattle.headers.specs.Form.{body_fault};
 ghost use Rattle.ethernet.specs.Fields.{structure_length, longest_frame, frame_of, frame_format};
 ghost use Rattle.ethernet.specs.Tables.{frame_slots};
 
 use crate::event::{length_fault, put_event};
+use headers::Fault;
 
 // Structure length and frame length are not kept: they follow from the frame's bytes, which are lent beside the record.
 #[derive(Clone, Copy)]
@@ -28,13 +30,16 @@ impl Frame {
     pub const LENGTH: usize = 32;
 }
 
-// What refuses the body of a frame: 8, 9, or 0 for nothing.
-pub fn frame_fault(b: &[u8]) -> u32
+// What refuses the body of a frame: 8 or 9.
+#[tactic(auto, unfolding(headers::specs::Form::body_fault, headers::specs::HeadTests::first))]
+pub fn frame_fault(b: &[u8]) -> Result<(), Fault>
     requires { structure_length ≤ length b.now }
-    ensures { result ≡ body_fault frame_format b.now }
+    ensures { tested result ≡ body_fault frame_format b.now }
 {
-    let reserved = fields::all_zero(b, 28, 4);
-    headers::first(8, reserved, length_fault(b))
+    if !fields::all_zero(b, 28, 4) {
+        return Err(Fault::Reserved);
+    }
+    length_fault(b)
 }
 
 // The place of the first reserved byte that is not zero, or 0, in an object whose header is so long.

@@ -2,12 +2,14 @@
 ghost use Rattle.std.specs.Prelude.{◌≡◌, ◌+◌, ◌≤◌, length};
 ghost use Rattle.fields.specs.Written.{Wrote};
 ghost use Rattle.fields.specs.Slots.{bytes_of};
+ghost use Rattle.headers.specs.Faults.{tested};
 ghost use Rattle.headers.specs.Form.{body_fault};
 ghost use Rattle.ethernet.specs.Fields.{structure_length, longest_frame, error_of, error_format};
 ghost use Rattle.ethernet.specs.Tables.{error_slots};
 
 use crate::event::{length_fault, put_event};
 use crate::frame::{Frame, get_frame};
+use headers::Fault;
 
 // The frame's fields, and the error code where a frame has reserved bytes.
 #[derive(Clone, Copy)]
@@ -16,10 +18,11 @@ pub struct FrameError {
     pub code: u32,
 }
 
-// What refuses the body of an error: 9, or 0 for nothing.
-pub fn error_fault(b: &[u8]) -> u32
+// What refuses the body of an error: 9.
+#[tactic(auto, unfolding(headers::specs::Form::body_fault, headers::specs::HeadTests::first))]
+pub fn error_fault(b: &[u8]) -> Result<(), Fault>
     requires { structure_length ≤ length b.now }
-    ensures { result ≡ body_fault error_format b.now }
+    ensures { tested result ≡ body_fault error_format b.now }
 {
     length_fault(b)
 }

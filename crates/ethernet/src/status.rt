@@ -47,18 +47,15 @@ pub fn put_status(out: &mut [u8], at: usize, r: Status)
     requires { at + 16 ≤ length out.old }
     ensures { Wrote at (bytes_of status_slots r) out.old out.new }
 {
-    let eight = [
-        r.link,
-        r.phy,
-        r.duplex,
-        r.mdi,
-        r.connector,
-        r.clock,
-        r.pairs,
-        r.hardware,
-    ];
     fields::put16(out, at, r.channel);
     fields::put16(out, at + 2, r.flags);
-    fields::put8x8(out, at + 4, eight);
+    fields::put8(out, at + 4, r.link);
+    fields::put8(out, at + 5, r.phy);
+    fields::put8(out, at + 6, r.duplex);
+    fields::put8(out, at + 7, r.mdi);
+    fields::put8(out, at + 8, r.connector);
+    fields::put8(out, at + 9, r.clock);
+    fields::put8(out, at + 10, r.pairs);
+    fields::put8(out, at + 11, r.hardware);
     fields::put32(out, at + 12, r.bitrate);
 }

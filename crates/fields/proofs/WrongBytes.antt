@@ -1,21 +1,25 @@
 -- Where the bytes of the gaps are not all zero the place named is that of the first wrong one. Assumes nothing.
 use mathlib.Core.Path.{◌≡◌, refl, sym, ap, ◌∙◌}
-use mathlib.Core.Bool.{Bool, true, false, cond, ◌&&◌, true≢false}
+use mathlib.Core.Bool.{Bool, true, false, cond, not, ◌&&◌, true≢false}
 use mathlib.Core.Logic.{◌↔◌, inl, inr, ⊎_elim}
 use mathlib.Core.List.{List, [], ◌∷◌, ◌++◌}
 use Prim.Native.Nat.{ℕ, zero, suc, ◌+◌, ◌-◌, ◌≤◌, ◌<◌}
 use native.Mathlib.Nat.{lt_of_not-le}
 use native.Mathlib.Omega.{arith}
-use lib.Dec.{eqb, leb}
+use lib.Dec.{eqb, leb, ltb}
 use lib.ListN.{length, drop, get_or, length-take, get_or-eq_default}
 use lib.Seq.{get_or-drop, get_or-take, drop-drop}
-use borrow.Author.Tests.{eq-eqb, ne_eqb, eqb-true, eqb-false, leb-true}
+use borrow.Author.Tests.{eqb-true, eqb-false, leb-true, ltb-false}
+use Rattle.std.specs.List.{position, position_or_len}
+use Rattle.std.specs.Option.{unwrap_or}
+use Rattle.std.specs.Prelude.{Option, Some, None}
+use Rattle.std.proofs.lemmas.List.Sums.{prefix_len-le-length}
 use Rattle.fields.specs.Numbers.{part, all_zero}
 use Rattle.fields.specs.Rules.{Gap, shifted, blank}
 use Rattle.fields.specs.Wrong.{leading, wrong_in, wrong_byte, InGap, FirstByte}
 use Rattle.fields.proofs.Offsets.{rising, starts, neither}
 use Rattle.fields.proofs.Parts.{length_part}
-use Rattle.fields.proofs.Zeros.{both_true, next_byte}
+use Rattle.fields.proofs.Zeros.{both_true}
 
 -- a list's first byte that is not zero
 record Leads (xs : List ℕ) (n : ℕ) : Type 0 where
@@ -68,19 +72,22 @@ module _ (b : List ℕ) (at n : ℕ) where
   gap_before : all_zero (part n b at) ≡ false → (i : ℕ) → at ≤ i → i < at + leading (part n b at) → get_or b i 0 ≡ 0
   gap_before e i l h = let s = gap_short e in byte i l (omega arith) ∙ (leads (part n b at) e).before (i - at) (omega arith)
 
--- a loop that looks for it: the byte at place i of n, and the end
-module _ (s : List ℕ) (at n i : ℕ) (h : i < n) (k : at + n ≤ length s) where
-  pub lead_on : get_or s (at + i) 0 ≡ 0 → i + leading (part (n - i) s (at + i)) ≡ (i + 1) + leading (part (n - (i + 1)) s (at + (i + 1)))
-  unfolding leading
-  lead_on z = rw (next_byte s at n i h k, eq-eqb (get_or s (at + i) 0) 0 z) (omega arith)
-
-  pub lead_here : (get_or s (at + i) 0 ≡ 0 → ⊥) → i + leading (part (n - i) s (at + i)) ≡ i
-  unfolding leading
-  lead_here z = rw (next_byte s at n i h k, ne_eqb (get_or s (at + i) 0) 0 z) (omega arith)
-
-pub lead_end : (s : List ℕ) (at n i : ℕ) → n ≤ i → i ≤ n → i + leading (part (n - i) s (at + i)) ≡ n
+-- it is what the library's search for that byte finds
+leading_position : (xs : List ℕ) → leading xs ≡ position_or_len (λ x. not (eqb x 0)) xs
 unfolding leading
-lead_end s at n i h k = let d : n - i ≡ 0 = omega arith in rw d (omega arith)
+leading_position [] = refl
+leading_position (x ∷ xs) = go (eqb x 0) (leading_position xs)
+  where
+    go : (t : Bool) → leading xs ≡ position_or_len (λ x. not (eqb x 0)) xs → cond t (suc (leading xs)) 0 ≡ cond (not (not t)) (1 + position_or_len (λ x. not (eqb x 0)) xs) 0
+    go true e = omega (arith, e)
+    go false e = refl
+
+pub leading_found : (xs : List ℕ) (n : ℕ) {o : Option ℕ} {r : ℕ} → length xs ≡ n → o ≡ position (λ x. not (eqb x 0)) xs → r ≡ unwrap_or o n → r ≡ leading xs
+leading_found xs n {o} {r} l p e = go (ltb (position_or_len (λ x. not (eqb x 0)) xs) (length xs)) refl p
+  where
+    go : (t : Bool) → ltb (position_or_len (λ x. not (eqb x 0)) xs) (length xs) ≡ t → o ≡ cond t (Some (position_or_len (λ x. not (eqb x 0)) xs)) None → r ≡ leading xs
+    go true h q = e ∙ rw q (sym (leading_position xs))
+    go false h q = e ∙ rw q (omega (arith, l, leading_position xs, prefix_len-le-length (λ x. not (not (eqb x 0))) xs, ltb-false _ _ h))
 
 -- there are fewer than n zeros in front exactly where the n bytes are not all zero
 module _ (b : List ℕ) (at n later : ℕ) where

@@ -8,14 +8,7 @@ fn leading(s: &[u8], at: usize, n: usize) -> usize
     requires { at + n ≤ length s.now }
     ensures { result ≡ leading (part n s.now at) }
 {
-    let mut i = 0;
-    while i < n {
-        if s[at + i] != 0 {
-            return i;
-        }
-        i += 1;
-    }
-    n
+    s[at..at + n].iter().position(|&b| b != 0).unwrap_or(n)
 }
 
 // The place of the first of n bytes that is not zero; where all are zero, what the later ones say.
@@ -24,18 +17,12 @@ pub fn wrong_byte(s: &[u8], at: usize, n: usize, later: usize) -> usize
     ensures { result ≡ wrong_in at n s.now later }
 {
     let i = leading(s, at, n);
-    if i < n {
-        return at + i;
-    }
-    later
+    if i < n { at + i } else { later }
 }
 
 // The place of a field that is not right; where it is, what the later ones say.
 pub fn wrong_field(right: bool, at: usize, later: usize) -> usize
     ensures { result ≡ cond right later at }
 {
-    if right {
-        return later;
-    }
-    at
+    if right { later } else { at }
 }

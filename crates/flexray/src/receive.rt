@@ -4,9 +4,12 @@ ghost use Rattle.fields.specs.Written.{Wrote};
 ghost use Rattle.fields.specs.Slots.{bytes_of};
 ghost use Rattle.fields.specs.Rules.{shifted};
 ghost use Rattle.fields.specs.Wrong.{wrong_byte, wrong_field};
+ghost use Rattle.headers.specs.Faults.{tested};
 ghost use Rattle.headers.specs.Form.{body_fault};
 ghost use Rattle.flexray.specs.Tables.{origin_slots, slot_slots, controller_slots, receive_slots};
 ghost use Rattle.flexray.specs.Fields.{receive_of, counts_ok, receive_format};
+
+use headers::Fault;
 
 #[derive(Clone, Copy)]
 pub struct Receive {
@@ -33,26 +36,26 @@ pub struct Receive {
 }
 
 // Test 9, for reader and writer: whether the data count is above neither 254 nor the byte count.
+#[tactic(auto, unfolding(crate::specs::Fields::counts_ok))]
 pub fn counts_ok(total: u16, stored: u16) -> bool
     ensures { result ≡ counts_ok total stored }
 {
-    if stored > 254 {
-        return false;
-    }
-    stored <= total
+    stored <= 254 && stored <= total
 }
 
-// What refuses the body of a receive event: 8, 9, or 0 for nothing.
-pub fn receive_fault(b: &[u8]) -> u32
+// What refuses the body of a receive event: 8 or 9.
+#[tactic(auto, unfolding(headers::specs::Form::body_fault, headers::specs::HeadTests::first))]
+pub fn receive_fault(b: &[u8]) -> Result<(), Fault>
     requires { 298 ≤ length b.now }
-    ensures { result ≡ body_fault receive_format b.now }
+    ensures { tested result ≡ body_fault receive_format b.now }
 {
-    let after_direction = fields::all_zero(b, 7, 1);
-    let after_cycle = fields::all_zero(b, 27, 1);
-    let reserved = fields::all_zero(b, 40, 4);
-    let counts = counts_ok(fields::get16(b, 22), fields::get16(b, 24));
-    let later = headers::first(8, reserved, headers::first(9, counts, 0));
-    headers::first(8, after_direction, headers::first(8, after_cycle, later))
+    if !fields::all_zero(b, 7, 1) || !fields::all_zero(b, 27, 1) || !fields::all_zero(b, 40, 4) {
+        return Err(Fault::Reserved);
+    }
+    if !counts_ok(fields::get16(b, 22), fields::get16(b, 24)) {
+        return Err(Fault::Content);
+    }
+    Ok(())
 }
 
 // The place of the first reserved byte that is not zero, or 0, in an object whose header is so long.
@@ -78,7 +81,7 @@ pub fn get_receive(h: headers::Header, b: &[u8]) -> Receive
     requires { 298 ≤ length b.now }
     ensures { result ≡ receive_of h b.now }
 {
-    let bytes = fields::get8x254(b, 44);
+    let bytes = fields::get_bytes(b, 44);
     Receive {
         header: h,
         channel: fields::get16(b, 0),
@@ -146,5 +149,5 @@ pub fn put_receive(out: &mut [u8], at: usize, r: Receive)
     put_origin(out, at, r);
     put_slot(out, at, r);
     put_controller(out, at, r);
-    fields::put8x254(out, at + 44, bytes);
+    fields::put_bytes(out, at + 44, &bytes);
 }

@@ -13,3 +13,5 @@ pub mod Bodies
 pub mod Forms
 pub mod BodyTests
 pub mod Reserved
+pub mod Allowed
+pub mod BeforeBodies

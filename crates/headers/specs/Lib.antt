@@ -11,3 +11,4 @@ pub mod Form
 pub mod Refused
 pub mod Faults
 pub mod Refusals
+pub mod Named

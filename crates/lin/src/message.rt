@@ -4,6 +4,7 @@ ghost use Rattle.fields.specs.Written.{Wrote};
 ghost use Rattle.fields.specs.Slots.{bytes_of};
 ghost use Rattle.fields.specs.Rules.{shifted};
 ghost use Rattle.fields.specs.Wrong.{wrong_byte, wrong_field};
+ghost use Rattle.headers.specs.Faults.{tested};
 ghost use Rattle.headers.specs.Form.{body_fault};
 ghost use Rattle.lin.specs.Tail.{tail};
 ghost use Rattle.lin.specs.Tables.{synch_slots, descriptor_slots, status_slots, machine_slots, message_slots};
@@ -11,6 +12,7 @@ ghost use Rattle.lin.specs.Fields.{tail_ok, message_of, message_format};
 
 use crate::bus::put_bus;
 use crate::tail::{Tail, get_tail, put_tail, tail_ok};
+use headers::Fault;
 
 #[derive(Clone, Copy)]
 pub struct Message {
@@ -39,19 +41,19 @@ pub struct Message {
     pub tail: Tail,
 }
 
-// What refuses the body of a message: 8, 9, or 0 for nothing.
-pub fn message_fault(b: &[u8]) -> u32
+// What refuses the body of a message: 8 or 9.
+#[tactic(auto, unfolding(headers::specs::Form::body_fault, headers::specs::HeadTests::first))]
+pub fn message_fault(b: &[u8]) -> Result<(), Fault>
     requires { 132 ≤ length b.now }
-    ensures { result ≡ body_fault message_format b.now }
+    ensures { tested result ≡ body_fault message_format b.now }
 {
-    let early = fields::all_zero(b, 14, 2);
-    let late = fields::all_zero(b, 129, 3);
-    let rates = tail_ok(get_tail(b));
-    headers::first(
-        8,
-        early,
-        headers::first(8, late, headers::first(9, rates, 0)),
-    )
+    if !fields::all_zero(b, 14, 2) || !fields::all_zero(b, 129, 3) {
+        return Err(Fault::Reserved);
+    }
+    if !tail_ok(get_tail(b)) {
+        return Err(Fault::Content);
+    }
+    Ok(())
 }
 
 // The place of the first reserved byte that is not zero, or 0, in an object whose header is so long.
@@ -76,8 +78,8 @@ pub fn get_message(h: headers::Header, b: &[u8]) -> Message
     requires { 132 ≤ length b.now }
     ensures { result ≡ message_of h b.now }
 {
-    let stamps = fields::get64x9(b, 40);
-    let bytes = fields::get8x8(b, 112);
+    let stamps = fields::get_numbers(b, 40);
+    let bytes = fields::get_bytes(b, 112);
     let tail = get_tail(b);
     Message {
         header: h,
@@ -158,8 +160,8 @@ pub fn put_message(out: &mut [u8], at: usize, r: Message)
     let tail = r.tail;
     put_synch(out, at, r);
     put_descriptor(out, at + 32, r);
-    fields::put64x9(out, at + 40, stamps);
-    fields::put8x8(out, at + 112, bytes);
+    fields::put_numbers(out, at + 40, stamps);
+    fields::put_bytes(out, at + 112, &bytes);
     put_status(out, at + 120, r);
     put_machines(out, at + 127, r);
     put_tail(out, at + 132, tail);

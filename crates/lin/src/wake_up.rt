@@ -4,11 +4,13 @@ ghost use Rattle.fields.specs.Written.{Wrote};
 ghost use Rattle.fields.specs.Slots.{bytes_of};
 ghost use Rattle.fields.specs.Rules.{shifted};
 ghost use Rattle.fields.specs.Wrong.{wrong_byte};
+ghost use Rattle.headers.specs.Faults.{tested};
 ghost use Rattle.headers.specs.Form.{body_fault};
 ghost use Rattle.lin.specs.Tables.{wake_up_slots};
 ghost use Rattle.lin.specs.Fields.{wake_up_of, wake_up_format};
 
 use crate::bus::put_bus;
+use headers::Fault;
 
 #[derive(Clone, Copy)]
 pub struct WakeUp {
@@ -21,14 +23,16 @@ pub struct WakeUp {
     pub external: u8,
 }
 
-// What refuses the body of a wake-up: 8, or 0 for nothing.
-pub fn wake_up_fault(b: &[u8]) -> u32
+// What refuses the body of a wake-up: 8.
+#[tactic(auto, unfolding(headers::specs::Form::body_fault, headers::specs::HeadTests::first))]
+pub fn wake_up_fault(b: &[u8]) -> Result<(), Fault>
     requires { 20 ≤ length b.now }
-    ensures { result ≡ body_fault wake_up_format b.now }
+    ensures { tested result ≡ body_fault wake_up_format b.now }
 {
-    let early = fields::all_zero(b, 14, 2);
-    let late = fields::all_zero(b, 19, 1);
-    headers::first(8, early, headers::first(8, late, 0))
+    if !fields::all_zero(b, 14, 2) || !fields::all_zero(b, 19, 1) {
+        return Err(Fault::Reserved);
+    }
+    Ok(())
 }
 
 // The place of the first reserved byte that is not zero, or 0, in an object whose header is so long.

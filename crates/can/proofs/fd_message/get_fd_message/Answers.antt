@@ -15,5 +15,5 @@ returns c =
       bit_count = c.get8.ensures i;
       fd_flags = c.get8-2.ensures i;
       valid_bytes = c.get8-3.ensures i;
-      bytes = c.get8x64.ensures i;
+      bytes = c.get_bytes.ensures i;
     }

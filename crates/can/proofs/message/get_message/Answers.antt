@@ -12,5 +12,5 @@ returns c =
       flags = (f i).flags;
       dlc = (f i).dlc;
       id = (f i).id;
-      bytes = c.get8x8.ensures i;
+      bytes = c.get_bytes.ensures i;
     }

@@ -1,18 +1,15 @@
--- `fields::put_zeros` meets its contract: after i turns i zeros are written. Assumes nothing.
-use mathlib.Core.Path.{◌≡◌, refl}
+-- `fields::put_zeros` meets its contract: the library's fill, at a place of the buffer. Assumes nothing.
+use mathlib.Core.Path.{◌≡◌}
+use Prim.Native.Nat.{◌+◌, ◌-◌}
 use native.Mathlib.Omega.{arith}
-use borrow.Author.Rules.{rules}
-use Rattle.fields.proofs.Zeros.{one_more}
+use lib.ListN.{length, length-replicate}
+use Rattle.fields.specs.Numbers.{part, zeros}
+use Rattle.fields.proofs.Parts.{length_part}
+use Rattle.fields.proofs.Writing.{copied}
 use Rattle.fields.proofs.runs.put_zeros.Goals as goal
-
-pub loop-i-init : goal.loop-i-init
-loop-i-init c = (search rules, refl, record { is = refl })
-
-pub loop-i-preserved : goal.loop-i-preserved
-loop-i-preserved c =
-    (search rules, search rules, one_more c.args.at c.loop-i.i c.loop-i.invariant.2)
 
 pub returns : goal.returns
 returns c =
-    let e : c.loop-i.i ≡ c.args.n = omega arith in
-    rw e at c.loop-i.invariant.2
+    let a = c.args in
+    let n : length (part (a.at + a.n - a.at) a.buf.now a.at) ≡ a.n = omega (arith, length_part (a.at + a.n - a.at) a.buf.now a.at (omega arith)) in
+    copied a.at a.n (zeros a.n) a.buf.now _ (length-replicate _ _) c.requires (rw n at (c.fill.ensures.after (λ y e. e)))

@@ -13,8 +13,8 @@ returns-then-i-n c =
     let e : c.leading-i.result ≡ leading (part a.n a.s.now a.at) = c.leading-i.ensures in
     ap (λ (i : ℕ). a.at + i) e ∙ sym (wrong_here a.s.now a.at a.n a.later (rw (← e) (search rules)) (search rules))
 
-pub returns : goal.returns
-returns c =
+pub returns-else-i-n : goal.returns-else-i-n
+returns-else-i-n c =
     let a = c.args in
     let e : c.leading-i.result ≡ leading (part a.n a.s.now a.at) = c.leading-i.ensures in
     sym (wrong_later a.s.now a.at a.n a.later (rw (← e) (search rules)))

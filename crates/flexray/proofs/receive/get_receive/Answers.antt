@@ -22,5 +22,5 @@ returns c =
       tag = c.get32-3.ensures k;
       state = c.get32-4.ensures k;
       flags = c.get32-5.ensures k;
-      bytes = c.get8x254-bytes.ensures k;
+      bytes = c.get_bytes-bytes.ensures k;
     }
