@@ -61,11 +61,6 @@ pub event_whole : (o : List ℕ) → WellFormed o → event_in o ≡ event_as (k
 unfolding event_in
 event_whole o f = rw (whole_formed o f)
 
--- what is not exactly one object is none
-pub no_event : (o : List ℕ) → whole o ≡ false → event_in o ≡ none
-unfolding event_in
-no_event o e = rw e
-
 -- what exactly one object passes
 record Whole (o : List ℕ) : Type 0 where
   head : head_fault o ≡ 0

@@ -1,6 +1,7 @@
 -- Texts that are lines and texts that are none, and the lines of records, each computed. Assumes nothing.
 use Prim.Native.Nat.{ℕ}
 use Prim.Native.String.{String}
+use Rattle.std.specs.Prelude.{Result}
 use mathlib.Core.Path.{◌≡◌, refl}
 use mathlib.Core.Bool.{Bool, true, false}
 use mathlib.Core.List.{List, [], ◌∷◌}
@@ -12,16 +13,17 @@ use Rattle.headers.specs.declared.header.Origin.TheVariants.{First, Second}
 use Rattle.headers.specs.declared.header.Header.{Header}
 use Rattle.asc_lines.specs.declared.told.Head.{Head}
 use Rattle.asc_lines.specs.declared.told.Told.{Told}
-use Rattle.asc_lines.specs.declared.reading.Reading.{Reading}
-use Rattle.asc_lines.specs.Told.{no_frame, no_counts, of_message, of_overload, of_statistic, shown}
+use Rattle.headers.specs.Refused.{Refused}
+use Rattle.asc_lines.specs.Told.{of_message, of_overload, of_statistic, shown}
 use Rattle.asc_lines.specs.Lines.{head_of, id_of, frame_of, load_of, counts_of, rest_of, line_of}
-use Rattle.asc_lines.specs.Reading.{seconds_in, nanos_in, channel_in, head_in, id_in, mid_in, dlc_in, frame_in, count_in, whole_in, load_in, counts_in, candidate, possible_time, same, told, no_line, line_read}
+use Rattle.asc_lines.specs.Reading.{seconds_in, nanos_in, channel_in, head_in, id_in, mid_in, dlc_in, frame_in, count_in, whole_in, load_in, counts_in, candidate, possible_time, same, line_in}
+use Rattle.asc.specs.Lines.{told, no_line, line_read}
 use Rattle.asc.specs.Tells.{seconds_of, nanos_of, head_told, kept, frame_told, counts_told, Event, message, overload, statistic, tells}
 
 -- a text, and what reading it gives
 pub record Row : Type 0 where
   pub reads : List ℕ
-  pub gives : Reading
+  pub gives : Result Told Refused
 
 unfoldable pub line : String → Told → Row
 line s t = record { reads = text s; gives = told t }
@@ -154,11 +156,11 @@ no_statistics =
     ∷ none "1.010000000 1 Statistic: D 0 XD 0 R 0 XR 0 E 0 O 0 B 0.10%\r\n"
     ∷ []
 
-unfoldable pub asked : List Row → List Reading
+unfoldable pub asked : List Row → List (Result Told Refused)
 asked [] = []
 asked (r ∷ rs) = line_read r.reads ∷ asked rs
 
-unfoldable pub expected : List Row → List Reading
+unfoldable pub expected : List Row → List (Result Told Refused)
 expected [] = []
 expected (r ∷ rs) = r.gives ∷ expected rs
 
@@ -169,7 +171,7 @@ pub texts_read :
     × (asked no_overloads ≡ expected no_overloads)
     × (asked no_messages ≡ expected no_messages)
     × (asked no_statistics ≡ expected no_statistics)
-unfolding asked expected messages others no_times no_overloads no_messages no_statistics line none head can counts none_of_eight two_of_eight eight glyph fixed fewest decimal hex pairs bytes_in filled digit scan number labelled head_of id_of frame_of load_of counts_of rest_of line_of seconds_in nanos_in channel_in head_in id_in mid_in dlc_in frame_in count_in whole_in load_in counts_in candidate possible_time same told no_line line_read no_frame no_counts of_message of_overload of_statistic shown
+unfolding asked expected messages others no_times no_overloads no_messages no_statistics line none head can counts none_of_eight two_of_eight eight glyph fixed fewest decimal hex pairs bytes_in filled digit scan number labelled head_of id_of frame_of load_of counts_of rest_of line_of seconds_in nanos_in channel_in head_in id_in mid_in dlc_in frame_in count_in whole_in load_in counts_in candidate possible_time same line_in line_read shown
 texts_read = (refl, refl, refl, refl, refl, refl)
 
 -- a record, and its line
@@ -247,5 +249,5 @@ wanted [] = []
 wanted (w ∷ ws) = w.gives ∷ wanted ws
 
 pub lines_written : written writes ≡ wanted writes
-unfolding written wanted writes write header second frame late late_second load eight seconds_of nanos_of head_told kept frame_told counts_told tells no_frame no_counts of_message of_overload of_statistic shown glyph fixed fewest decimal hex pairs labelled head_of id_of frame_of load_of counts_of rest_of line_of
+unfolding written wanted writes write header second frame late late_second load eight seconds_of nanos_of head_told kept frame_told counts_told tells shown glyph fixed fewest decimal hex pairs labelled head_of id_of frame_of load_of counts_of rest_of line_of
 lines_written = refl

@@ -8,3 +8,4 @@ pub mod Fitting
 pub mod RecordOfTold
 pub mod Exact
 pub mod Examples
+pub mod ToldNumbers

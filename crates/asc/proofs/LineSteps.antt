@@ -5,15 +5,17 @@ use Prim.Native.Nat.{ℕ, ◌+◌, ◌-◌}
 use lib.ListN.{take, drop}
 use Rattle.fields.specs.Numbers.{part}
 use Rattle.headers.specs.Format.{kind_at}
+use Rattle.std.specs.Prelude.{None, Ok, Err}
+use Rattle.headers.specs.Refused.{Refused}
 use Rattle.objects.specs.declared.Step.{Step}
-use Rattle.objects.specs.declared.Answer.TheVariants as answer
+use Rattle.objects.specs.Answers as answer
 use Rattle.objects.specs.Next.{object_step, next_at}
 use Rattle.objects.specs.Views.{object_in, object_at}
+use Rattle.objects.proofs.Answers.{same_object}
 use Rattle.objects.proofs.Steps.{step_exact}
 use Rattle.objects.proofs.ViewLaws.{object_here}
-use Rattle.outcomes.specs.declared.Written.{Written}
+use Rattle.outcomes.specs.Answers.{Written}
 use Rattle.outcomes.proofs.Looks.{cut_is}
-use Rattle.asc.specs.declared.at_cursor.LineAt.TheVariants as line
 use Rattle.asc.specs.declared.at_cursor.LineStep.{LineStep}
 use Rattle.asc.specs.Writes.{none, text_of, refusal_of, LineOutcome}
 use Rattle.asc.specs.Objects.{whole, event_as, event_in, lined, event_at, line_step, line_into}
@@ -30,12 +32,11 @@ module _ (s : List ℕ) (at : ℕ) (x : List ℕ) {st : Step} (e : st ≡ next_a
   unfolding line_into refusal_of text_of
   unwritten q = rw (q, none_there)
 
-  pub step_done : st.answer ≡ answer.Done → (record { answer = line.Done; next = st.next } ≡ line_step s at x) × (x ≡ line_into s at x)
+  pub step_done : st.answer ≡ answer.Done → (record { answer = Ok None; next = st.next } ≡ line_step s at x) × (x ≡ line_into s at x)
   unfolding line_step object_at
   step_done f = (rw (← e, f), unwritten (ap (λ (y : Step). object_in s y.answer) (sym e) ∙ ap (object_in s) f))
 
-  pub step_refused : {number place : ℕ} → st.answer ≡ answer.Refused number place
-      → (record { answer = line.Refused number place; next = st.next } ≡ line_step s at x) × (x ≡ line_into s at x)
+  pub step_refused : {r : Refused} → st.answer ≡ Err r → (record { answer = Err r; next = st.next } ≡ line_step s at x) × (x ≡ line_into s at x)
   unfolding line_step object_at
   step_refused f = (rw (← e, f), unwritten (ap (λ (y : Step). object_in s y.answer) (sym e) ∙ ap (object_in s) f))
 
@@ -49,7 +50,7 @@ module _ (s : List ℕ) (at : ℕ) (x : List ℕ) {st : Step} (e : st ≡ next_a
     event_there =
         let n : next_at s at ≡ object_step start size kind st.next = sym e ∙ (λ i. record { answer = f i; next = st.next }) in
         let d = (step_exact s at start size kind st.next).0 n in
-        let k : kind ≡ kind_at d.0 = cc (ap (λ (y : Step). y.answer) d.2) in
+        let k : kind ≡ kind_at d.0 = (same_object (ap (λ (y : Step). y.answer) d.2)).2 in
         let o : object_at s at ≡ d.0 = object_here s at d.0 d.1.formed _ d.1.here in
         ap₂ event_as k (here ∙ o) ∙ sym (event_whole d.0 d.1.formed) ∙ ap event_in (sym o)
 

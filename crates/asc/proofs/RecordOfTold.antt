@@ -2,10 +2,10 @@
 use mathlib.Core.Path.{◌≡◌, refl, ap, ap₂, ◌∙◌}
 use mathlib.Core.Bool.{Bool, true, false, cond}
 use mathlib.Core.List.{List, [], ◌∷◌, ◌++◌}
-use Prim.Native.Nat.{ℕ, zero, suc, ◌+◌, ◌*◌, ◌-◌, ◌%◌, ◌≤◌, ◌<◌}
+use Prim.Native.Nat.{ℕ, zero, suc, ◌+◌, ◌*◌, ◌-◌, ◌%◌, ◌<◌}
 use native.Mathlib.Omega.{arith}
 use borrow.Author.Tests.{le-leb, lt-leb}
-use lib.ListN.{length, replicate, length-append, length-replicate}
+use lib.ListN.{replicate}
 use lib.Seq.{take_at}
 use lib.Dec.{leb, eqb}
 use Rattle.fields.specs.Numbers.{Bytes}
@@ -27,6 +27,7 @@ use Rattle.asc_lines.specs.declared.told.Told.{Told}
 use Rattle.asc_lines.specs.Told.{of_message, of_overload, of_statistic, shown}
 use Rattle.asc_lines.specs.Lines.{line_of}
 use Rattle.asc_lines.specs.Reading.{stands, head_in, head_end, mid_in, dlc_in, frame_in, load_in, counts_in, candidate, possible_time}
+use Rattle.asc_lines.proofs.Eights.{filled_eight}
 use Rattle.asc_lines.proofs.Parsing.{FitFrame, FitCounts, shown_most}
 use Rattle.asc.specs.Tells.{head_told, kept, frame_told, counts_told, message, overload, statistic, tells}
 use Rattle.asc.specs.Lines.{Line, Stamped}
@@ -172,10 +173,6 @@ module _ (k : ℕ) (s : List ℕ) (at : ℕ) where
   unfolding filled kept
   filled_kept = ap (λ (l : List ℕ). l ++ replicate (8 - k) 0) (take_at (bytes_in k s at) (replicate (8 - k) 0) k (length_bytes k s at))
 
-  filled_eight : k ≤ 8 → length (filled k s at) ≡ 8
-  unfolding filled
-  filled_eight h = length-append (bytes_in k s at) (replicate (8 - k) 0) ∙ rw (length_bytes, length-replicate) (omega arith)
-
 bytes_in_are : (k : ℕ) (s : List ℕ) (at : ℕ) → Bytes (bytes_in k s at)
 unfolding bytes_in
 bytes_in_are zero s at i = omega arith
@@ -217,7 +214,6 @@ module _ (s : List ℕ) where
   stamped e = (possible_time_exact (head_in s).seconds (head_in s).nanos).0 e
 
   told_by : (o c : Bool) → possible_time (by o c).head.seconds (by o c).head.nanos ≡ true → Line (line_of (by o c)) (by o c)
-  unfolding of_overload of_statistic of_message
   told_by true c e = overload_told (head_in s) channel_fit (stamped e)
   told_by false true e = statistic_told (head_in s) channel_fit (stamped e) (counts_in s (head_end s)) (counts_fit (head_end s))
   told_by false false e = message_told (head_in s) channel_fit (stamped e) (frame_in s (head_end s)) (frame_fit (head_end s))

@@ -4,11 +4,11 @@ use mathlib.Core.Bool.{Bool, true, false, ◌&&◌, ◌||◌, false≢true}
 use mathlib.Core.Logic.{◌↔◌}
 use Prim.Native.Nat.{ℕ, ◌+◌, ◌*◌, ◌/◌, ◌%◌, ◌<◌}
 use native.Mathlib.Omega.{arith}
-use borrow.Author.Tests.{ltb-true, lt-ltb, eqb-true, eq-eqb}
+use borrow.Author.Tests.{ltb-true, eqb-true}
 use lib.Dec.{ltb, eqb}
+use Rattle.std.proofs.lemmas.Bool.Decides.{nat_tests}
 use Rattle.headers.specs.Format.{unit_ok}
 use Rattle.asc_lines.specs.Reading.{possible_time}
-use Rattle.asc_lines.proofs.Times.{in_nanos}
 use Rattle.asc.specs.Tells.{seconds_of, nanos_of}
 use Rattle.asc.specs.Lines.{Stamped}
 
@@ -54,15 +54,13 @@ module _ (s n : ℕ) where
       cases true false false d p q u v z = absurd (false≢true z)
       cases false b c d p q u v z = absurd (false≢true z)
 
-or_true : (b : Bool) → (b || true) ≡ true
-or_true true = refl
-or_true false = refl
-
 tens_possible : (s n : ℕ) → n < 1000000000 → n % 10000 ≡ 0 → s * 100000 + n / 10000 < 18446744073709551616 → possible_time s n ≡ true
 unfolding possible_time
-tens_possible s n h d k =
-    rw (lt-ltb n 1000000000 h, eq-eqb (n % 10000) 0 d, lt-ltb (s * 100000 + n / 10000) 18446744073709551616 k)
-    (or_true (ltb (s * 1000000000 + n) 18446744073709551616))
+tens_possible s n h d k = grind (arith, nat_tests)
+
+nanos_possible : (s n : ℕ) → n < 1000000000 → s * 1000000000 + n < 18446744073709551616 → possible_time s n ≡ true
+unfolding possible_time
+nanos_possible s n h k = grind (arith, nat_tests)
 
 -- the time of a stamp can be told
 pub stamp_possible : (u x : ℕ) → unit_ok u ≡ true → x < 18446744073709551616 → possible_time (seconds_of u x) (nanos_of u x) ≡ true
@@ -70,7 +68,7 @@ unfolding seconds_of nanos_of
 stamp_possible u x e h =
     units (λ v. possible_time (seconds_of v x) (nanos_of v x) ≡ true)
     (tens_possible (x / 100000) (x % 100000 * 10000) (omega arith) (omega arith) (omega arith))
-    (in_nanos (x / 1000000000) (x % 1000000000) (omega arith) (omega arith)) u e
+    (nanos_possible (x / 1000000000) (x % 1000000000) (omega arith) (omega arith)) u e
 
 -- a time can be told exactly when a stamp of 64 bits has it in one of the two units
 pub possible_time_exact : (s n : ℕ) → (possible_time s n ≡ true) ↔ Stamped s n

@@ -1,40 +1,19 @@
--- What a record tells, as the code puts it together. Assumes nothing.
-use mathlib.Core.Path.{◌≡◌, sym, ap, ◌∙◌, subst}
-use mathlib.Core.List.{List, [], ◌∷◌, ◌++◌, append_assoc, append-nil}
-use Prim.Native.Nat.{ℕ, suc, ◌+◌, ◌*◌, ◌-◌, ◌/◌, ◌%◌, ◌<◌}
-use native.Mathlib.Nat.{le_of_eq}
+-- The bytes that a record tells, as the code puts them together. Assumes nothing.
+use mathlib.Core.Path.{◌≡◌, ap, ◌∙◌}
+use mathlib.Core.List.{List, [], append-nil}
+use Prim.Native.Nat.{ℕ, ◌-◌, ◌≤◌}
 use native.Mathlib.Omega.{arith}
-use borrow.Author.Tests.{eq-eqb, ne_eqb}
-use lib.ListN.{length, take, get_or, set, replicate}
-use lib.Seq.{take-suc, take_all, length-take-le, set_at}
-use Rattle.headers.specs.declared.header.Header.{Header}
-use Rattle.asc.specs.Tells.{seconds_of, nanos_of, head_told, kept}
+use borrow.Rule.Slice.PartMut.{put_mid, post_of}
+use lib.ListN.{length, take, drop, replicate, length-drop, drop_of_length-le}
+use lib.Seq.{length-take-le}
+use Rattle.asc.specs.Tells.{kept}
 
--- the time, by the unit
-module _ (h : Header) (channel : ℕ) where
-  pub head_tens : h.unit ≡ 1 → record { seconds = h.stamp / 100000; nanos = h.stamp % 100000 * 10000; channel = channel } ≡ head_told h channel
-  unfolding head_told seconds_of nanos_of
-  head_tens e = rw (eq-eqb h.unit 1 e)
-
-  pub head_nanos : (h.unit ≡ 1 → ⊥) → record { seconds = h.stamp / 1000000000; nanos = h.stamp % 1000000000; channel = channel } ≡ head_told h channel
-  unfolding head_told seconds_of nanos_of
-  head_nanos e = rw (ne_eqb h.unit 1 e)
-
--- the bytes kept
-module _ (bytes : List ℕ) (eight : length bytes ≡ 8) where
-  pub kept_all : (k : ℕ) → k ≡ 8 → bytes ≡ kept k bytes
-  unfolding kept
-  kept_all k e = rw e (sym (append-nil (take 8 bytes) ∙ take_all 8 bytes (le_of_eq eight)))
-
-  pub kept_more : (i : ℕ) (out : List ℕ) → out ≡ kept i bytes → i < 8 → set out i (get_or bytes i 0) ≡ kept (i + 1) bytes
-  unfolding kept
-  kept_more i out e h =
-      let a : i + 1 ≡ suc i = omega arith in
-      let z : 8 - i ≡ suc (8 - suc i) = omega arith in
-      let y : out ≡ take i bytes ++ (0 ∷ replicate (8 - suc i) 0) = e ∙ ap (λ (m : ℕ). take i bytes ++ replicate m 0) z in
-      rw (y, a)
-      (set_at (take i bytes) 0 (replicate (8 - suc i) 0) (get_or bytes i 0) i (length-take-le i bytes (omega arith))
-      ∙ sym (ap (λ (t : List ℕ). t ++ replicate (8 - suc i) 0) (take-suc bytes i 0 (omega arith)) ∙ append_assoc (take i bytes) (get_or bytes i 0 ∷ []) (replicate (8 - suc i) 0)))
-
-pub kept_done : (i k : ℕ) (bytes : List ℕ) {out : List ℕ} → out ≡ kept i bytes → i ≡ k → out ≡ kept k bytes
-kept_done i k bytes {out} e q = subst (λ (j : ℕ). out ≡ kept j bytes) q e
+-- zeros behind the first k of eight bytes
+pub blanked : (k : ℕ) (bytes : List ℕ) {z : List ℕ} → length bytes ≡ 8 → k ≤ 8 → z ≡ replicate (length (take (8 - k) (drop k bytes))) 0
+    → put_mid k (8 - k) bytes z ≡ kept k bytes
+unfolding kept
+blanked k bytes {z} e h q =
+    let d : length (drop k bytes) ≡ 8 - k = length-drop k bytes ∙ ap (λ (n : ℕ). n - k) e in
+    let l : length (take (8 - k) (drop k bytes)) ≡ 8 - k = length-take-le (8 - k) (drop k bytes) (omega arith) in
+    let n : post_of k (8 - k) bytes ≡ [] = drop_of_length-le (drop k bytes) {i = 8 - k} (omega arith) in
+    rw (q, l, n, append-nil)

@@ -41,70 +41,82 @@ none_in o e = ap (λ (f : Found). cond (whole o) f none) e ∙ either (whole o)
     either true = refl
     either false = refl
 
+-- bytes of which no line comes
 module _ (o : List ℕ) where
   pub too_short : length o < head_size → none ≡ event_in o
   unfolding event_in whole
   too_short h = rw (lt-leb head_size (length o) h)
 
-  module _ (long : head_size ≤ length o) where
-    pub bad_head : (head_fault o ≡ 0 → ⊥) → none ≡ event_in o
-    unfolding event_in whole
-    bad_head h = rw (le-leb head_size (length o) long, ne_eqb (head_fault o) 0 h)
+  pub bad_head : head_size ≤ length o → (head_fault o ≡ 0 → ⊥) → none ≡ event_in o
+  unfolding event_in whole
+  bad_head l h = rw (le-leb head_size (length o) l, ne_eqb (head_fault o) 0 h)
 
-    module _ (head : head_fault o ≡ 0) where
-      pub other_size_none : (size_at o ≡ length o → ⊥) → none ≡ event_in o
-      unfolding event_in whole
-      other_size_none h = rw (le-leb head_size (length o) long, eq-eqb (head_fault o) 0 head, ne_eqb (size_at o) (length o) h)
+  pub other_size_none : head_size ≤ length o → head_fault o ≡ 0 → (size_at o ≡ length o → ⊥) → none ≡ event_in o
+  unfolding event_in whole
+  other_size_none l f h = rw (le-leb head_size (length o) l, eq-eqb (head_fault o) 0 f, ne_eqb (size_at o) (length o) h)
 
-      module _ (size : size_at o ≡ length o) where
-        -- then 8 and 9 decide
-        inner_decides : {b : Bool} → eqb (inner_fault_of (kind_at o) o) 0 ≡ b → cond b (event_as (kind_at o) o) none ≡ event_in o
-        unfolding event_in whole
-        inner_decides e = rw (le-leb head_size (length o) long, eq-eqb (head_fault o) 0 head, eq-eqb (size_at o) (length o) size, e)
+-- what 2 to 4 let through, as long as it says
+pub record Headed (o : List ℕ) : Type 0 where
+  pub long : head_size ≤ length o
+  pub head : head_fault o ≡ 0
+  pub size : size_at o ≡ length o
 
-        -- which a foreign object does not meet
-        pub foreign_free : listed (row_of (kind_at o)) ≡ false → event_as (kind_at o) o ≡ event_in o
-        foreign_free l = inner_decides (ap (λ (n : ℕ). eqb n 0) (sym (unlisted_inner (kind_at o) o l)))
+module _ (o : List ℕ) (p : Headed o) where
+  -- 8 and 9 decide
+  inner_decides : {b : Bool} → eqb (inner_fault_of (kind_at o) o) 0 ≡ b → cond b (event_as (kind_at o) o) none ≡ event_in o
+  unfolding event_in whole
+  inner_decides e = rw (le-leb head_size (length o) p.long, eq-eqb (head_fault o) 0 p.head, eq-eqb (size_at o) (length o) p.size, e)
 
-        module _ (l : listed (row_of (kind_at o)) ≡ true) where
-          -- the header's own reserved byte
-          pub header_unclean : header_blank o ≡ false → none ≡ event_in o
-          unfolding blank_fault first
-          header_unclean z =
-              let e : 8 ≡ inner_fault_of (kind_at o) o = (let f : 8 ≡ blank_fault o (body_fault_of (kind_at o) (body_of o)) = rw z in f) ∙ listed_inner (kind_at o) o l in
-              inner_decides (ap (λ (n : ℕ). eqb n 0) (sym e))
+  -- which a foreign object does not meet
+  foreign_free : listed (row_of (kind_at o)) ≡ false → event_as (kind_at o) o ≡ event_in o
+  foreign_free l = inner_decides (ap (λ (n : ℕ). eqb n 0) (sym (unlisted_inner (kind_at o) o l)))
 
-          module _ (clean : header_blank o ≡ true) where
-            body_decides : {x : ℕ} → x ≡ body_fault_of (kind_at o) (body_of o) → cond (eqb x 0) (event_as (kind_at o) o) none ≡ event_in o
-            unfolding blank_fault
-            body_decides {x} e =
-                let f : inner_fault_of (kind_at o) o ≡ x = sym (listed_inner (kind_at o) o l) ∙ passes 8 _ clean ∙ sym e in
-                inner_decides (ap (λ (n : ℕ). eqb n 0) f)
+  module _ (l : listed (row_of (kind_at o)) ≡ true) where
+    -- a listed object's header is there
+    pub header_there : length_at o ≤ length o
+    header_there = (object_held o p.head p.size l).0
 
-            pub overload_body : {x : ℕ} → kind_at o ≡ number_of overload → x ≡ body_fault (format_of overload) (body_of o) → cond (eqb x 0) (event_as (kind_at o) o) none ≡ event_in o
-            overload_body k e = body_decides (arm overload (body_of o) k e)
+    -- the header's own reserved byte
+    pub header_unclean : header_blank o ≡ false → none ≡ event_in o
+    unfolding blank_fault first
+    header_unclean z =
+        let e : 8 ≡ inner_fault_of (kind_at o) o = (let f : 8 ≡ blank_fault o (body_fault_of (kind_at o) (body_of o)) = rw z in f) ∙ listed_inner (kind_at o) o l in
+        inner_decides (ap (λ (n : ℕ). eqb n 0) (sym e))
 
-            free : 0 ≡ body_fault_of (kind_at o) (body_of o) → event_as (kind_at o) o ≡ event_in o
-            free e = body_decides e
+    body_decides : {x : ℕ} → header_blank o ≡ true → x ≡ body_fault_of (kind_at o) (body_of o) → cond (eqb x 0) (event_as (kind_at o) o) none ≡ event_in o
+    unfolding blank_fault
+    body_decides {x} clean e =
+        let f : inner_fault_of (kind_at o) o ≡ x = sym (listed_inner (kind_at o) o l) ∙ passes 8 _ clean ∙ sym e in
+        inner_decides (ap (λ (n : ℕ). eqb n 0) f)
 
-            -- the message and the statistic have no reserved byte and no rule in their bodies; and other types no line
-            pub other_body : (kind_at o ≡ number_of overload → ⊥) → event_as (kind_at o) o ≡ event_in o
-            other_body h = cases (eqb (kind_at o) (number_of can_message)) (eqb (kind_at o) (number_of statistic)) refl refl
-              where
-                cases : (a b : Bool) → eqb (kind_at o) (number_of can_message) ≡ a → eqb (kind_at o) (number_of statistic) ≡ b → event_as (kind_at o) o ≡ event_in o
-                cases true b p q = free (arm_free can_message (body_of o) (eqb-true _ _ p) refl)
-                cases false true p q = free (arm_free statistic (body_of o) (eqb-true _ _ q) refl)
-                cases false false p q = no_line o (kind_at o) p (ne_eqb (kind_at o) (number_of overload) h) q ∙ sym (none_in o (no_line o (kind_at o) p (ne_eqb (kind_at o) (number_of overload) h) q))
+  -- an overload's body is there, and its test decides
+  module _ (k : kind_at o ≡ number_of overload) where
+    overload_listed : listed (row_of (kind_at o)) ≡ true
+    overload_listed = ap (λ (n : ℕ). listed (row_of n)) k ∙ known overload
 
--- a listed object's header is there, and an overload's body
-pub header_there : (o : List ℕ) → head_fault o ≡ 0 → size_at o ≡ length o → listed (row_of (kind_at o)) ≡ true → length_at o ≤ length o
-header_there o h z l = (object_held o h z l).0
+    pub overload_held : (length_at o ≤ length o) × (4 ≤ length (body_of o))
+    overload_held =
+        let w = object_held o p.head p.size overload_listed in
+        (w.0, sized_least overload (body_of o) (subst (λ (n : ℕ). Sized n (body_of o)) k w.1))
 
-pub overload_held : (o : List ℕ) → head_fault o ≡ 0 → size_at o ≡ length o → kind_at o ≡ number_of overload → (length_at o ≤ length o) × (4 ≤ length (body_of o))
-overload_held o h z k =
-    let l : listed (row_of (kind_at o)) ≡ true = ap (λ (n : ℕ). listed (row_of n)) k ∙ known overload in
-    let w = object_held o h z l in
-    (w.0, sized_least overload (body_of o) (subst (λ (n : ℕ). Sized n (body_of o)) k w.1))
+    module _ (clean : listed (row_of (kind_at o)) ≡ true → header_blank o ≡ true) {x : ℕ} (e : x ≡ body_fault (format_of overload) (body_of o)) where
+      pub overload_bad : (x ≡ 0 → ⊥) → none ≡ event_in o
+      overload_bad h = let d = body_decides overload_listed (clean overload_listed) (arm overload (body_of o) k e) in rw (ne_eqb x 0 h) at d
+
+      pub overload_good : x ≡ 0 → event_as (kind_at o) o ≡ event_in o
+      overload_good h = let d = body_decides overload_listed (clean overload_listed) (arm overload (body_of o) k e) in rw h at d
+
+  -- the message and the statistic have no reserved byte and no rule in their bodies; and other types no line
+  pub other_body : (listed (row_of (kind_at o)) ≡ true → header_blank o ≡ true) → (kind_at o ≡ number_of overload → ⊥) → event_as (kind_at o) o ≡ event_in o
+  other_body clean h = cases (eqb (kind_at o) (number_of can_message)) (eqb (kind_at o) (number_of statistic)) refl refl
+    where
+      free : (l : listed (row_of (kind_at o)) ≡ true) → 0 ≡ body_fault_of (kind_at o) (body_of o) → event_as (kind_at o) o ≡ event_in o
+      free l e = body_decides l (clean l) e
+
+      cases : (a b : Bool) → eqb (kind_at o) (number_of can_message) ≡ a → eqb (kind_at o) (number_of statistic) ≡ b → event_as (kind_at o) o ≡ event_in o
+      cases true b q r = let k = eqb-true _ _ q in free (ap (λ (n : ℕ). listed (row_of n)) k ∙ known can_message) (arm_free can_message (body_of o) k refl)
+      cases false true q r = let k = eqb-true _ _ r in free (ap (λ (n : ℕ). listed (row_of n)) k ∙ known statistic) (arm_free statistic (body_of o) k refl)
+      cases false false q r = no_line o (kind_at o) q (ne_eqb (kind_at o) (number_of overload) h) r ∙ sym (none_in o (no_line o (kind_at o) q (ne_eqb (kind_at o) (number_of overload) h) r))
 
 -- an event by its type
 module _ (o : List ℕ) {n : ℕ} where
@@ -119,11 +131,3 @@ module _ (o : List ℕ) {n : ℕ} where
   pub as_statistic : n ≡ number_of statistic → {r : Statistic} → r ≡ record_in statistic o → one (event.statistic r) ≡ event_as n o
   unfolding event_as
   as_statistic e q = rw e (ap (λ (x : Statistic). one (event.statistic x)) q)
-
--- whether bytes are an object settles their event
-module _ (o : List ℕ) (r : Bool) (e : cond r (event_as (kind_at o) o) none ≡ event_in o) where
-  pub settled_not : r ≡ false → none ≡ event_in o
-  settled_not f = ap (λ (b : Bool). cond b (event_as (kind_at o) o) none) (sym f) ∙ e
-
-  pub settled : {n : ℕ} → n ≡ kind_at o → r ≡ true → event_as n o ≡ event_in o
-  settled k t = ap (λ (m : ℕ). event_as m o) k ∙ ap (λ (b : Bool). cond b (event_as (kind_at o) o) none) (sym t) ∙ e

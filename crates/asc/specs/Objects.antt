@@ -1,21 +1,18 @@
 -- W-201: the line of an object, given as its bytes or standing in a log. Bytes that are no object, and other types,
 -- have none, whatever their unit and the room; in a log the step's own answer comes first.
-use Rattle.std.specs.Prelude.{ℕ, Bool, cond, ◌&&◌, List, length, eqb, leb}
+use Rattle.std.specs.Prelude.{ℕ, Bool, cond, ◌&&◌, Option, Some, None, Ok, Err, List, length, eqb, leb}
 use Rattle.headers.specs.Format.{head_size, size_at, kind_at}
 use Rattle.headers.specs.HeadTests.{head_fault}
 use Rattle.headers.specs.Types.{number_of}
 use Rattle.headers.specs.Types as kind
 use Rattle.objects.specs.declared.Cursor.{Cursor}
-use Rattle.objects.specs.declared.Answer.{Answer}
-use Rattle.objects.specs.declared.Answer.TheVariants as answer
+use Rattle.objects.specs.Answers.{Answer}
 use Rattle.objects.specs.Faults.{inner_fault_of}
 use Rattle.objects.specs.Next.{cursor, next_at}
 use Rattle.objects.specs.Views.{object_at}
-use Rattle.outcomes.specs.declared.Written.{Written}
-use Rattle.outcomes.specs.declared.Written.TheVariants as written
+use Rattle.outcomes.specs.Answers.{Written}
 use Rattle.outcomes.specs.Reads.{record_in}
 use Rattle.outcomes.specs.Writes.{answer_of, buffer_of}
-use Rattle.asc.specs.declared.at_cursor.LineAt.TheVariants as line
 use Rattle.asc.specs.declared.at_cursor.LineStep.{LineStep}
 use Rattle.asc.specs.Tells.{message, overload, statistic}
 use Rattle.asc.specs.Writes.{Found, one, none, text_of, refusal_of}
@@ -39,16 +36,21 @@ event_as n o =
 unfoldable pub event_in : List ℕ → Found
 event_in o = cond (whole o) (event_as (kind_at o) o) none
 
+-- the same by the type that a test has found
+abbrev pub found : Option ℕ → List ℕ → Found
+found (Some n) o = event_as n o
+found None o = none
+
 -- at a place of a log: the step's own done and refusal; else what the object's line gives, and behind a refusal the
 -- cursor is as it was
 abbrev pub lined : ℕ → Cursor → Written → LineStep
-lined at next (written.Used n) = record { answer = line.Line n; next = next }
-lined at next (written.Refused number place) = record { answer = line.Refused number place; next = cursor at }
+lined at next (Ok n) = record { answer = Ok (Some n); next = next }
+lined at next (Err r) = record { answer = Err r; next = cursor at }
 
 abbrev pub line_by : ℕ → Cursor → Answer → Written → LineStep
-line_by at next (answer.Object start size kind) w = lined at next w
-line_by at next answer.Done w = record { answer = line.Done; next = next }
-line_by at next (answer.Refused number place) w = record { answer = line.Refused number place; next = next }
+line_by at next (Ok (Some o)) w = lined at next w
+line_by at next (Ok None) w = record { answer = Ok None; next = next }
+line_by at next (Err r) w = record { answer = Err r; next = next }
 
 -- the event at a place, and what its line gives in a buffer x
 abbrev pub event_at : List ℕ → ℕ → Found

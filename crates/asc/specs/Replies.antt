@@ -1,20 +1,18 @@
 -- W-201: what a line at a place of a log and a line read answer, by number and values.
-use Rattle.std.specs.Prelude.{ℕ, Bool, cond, List, [], ◌∷◌, ◌++◌}
+use Rattle.std.specs.Prelude.{ℕ, Bool, cond, Option, Some, None, Result, Ok, Err, List, [], ◌∷◌, ◌++◌, replicate}
 use Rattle.objects.specs.Replies.{Reply, success, done, refused}
 use Rattle.asc_lines.specs.declared.told.Head.{Head}
 use Rattle.asc_lines.specs.declared.told.Frame.{Frame}
 use Rattle.asc_lines.specs.declared.told.Counts.{Counts}
 use Rattle.asc_lines.specs.declared.told.Told.{Told}
-use Rattle.asc_lines.specs.declared.reading.LineAnswer.{LineAnswer}
-use Rattle.asc_lines.specs.declared.reading.LineAnswer.TheVariants as reading
-use Rattle.asc.specs.declared.at_cursor.LineAt.{LineAt}
-use Rattle.asc.specs.declared.at_cursor.LineAt.TheVariants as line
+use Rattle.asc_lines.specs.Told.{kind_number, kind_frame, kind_counts}
+use Rattle.headers.specs.Refused.{Refused}
 
 -- the line's bytes
-abbrev pub line_reply : LineAt → Reply
-line_reply (line.Line n) = success (n ∷ [])
-line_reply line.Done = done
-line_reply (line.Refused number place) = refused number place
+abbrev pub line_reply : Result (Option ℕ) Refused → Reply
+line_reply (Ok (Some n)) = success (n ∷ [])
+line_reply (Ok None) = done
+line_reply (Err r) = refused r.number r.place
 
 abbrev pub bit : Bool → ℕ
 bit b = cond b 1 0
@@ -31,9 +29,18 @@ count_numbers c =
     c.load ∷ c.standard_data ∷ c.extended_data ∷ c.standard_remote ∷ c.extended_remote ∷ c.errors ∷ c.overloads ∷ []
 
 unfoldable pub told_numbers : Told → List ℕ
-told_numbers t = (t.kind ∷ head_numbers t.head) ++ frame_numbers t.frame ++ t.frame.bytes ++ count_numbers t.counts
+told_numbers t =
+    (kind_number t.kind ∷ head_numbers t.head)
+    ++ frame_numbers (kind_frame t.kind)
+    ++ (kind_frame t.kind).bytes
+    ++ count_numbers (kind_counts t.kind)
 
 -- 0 where the text is a line, or the refusal's number
-abbrev pub read_number : LineAnswer → ℕ
-read_number reading.Line = 0
-read_number (reading.Refused number place) = number
+abbrev pub read_number : Result Told Refused → ℕ
+read_number (Ok t) = 0
+read_number (Err r) = r.number
+
+-- what it tells; zeros where it is none
+abbrev pub read_numbers : Result Told Refused → List ℕ
+read_numbers (Ok t) = told_numbers t
+read_numbers (Err r) = replicate 24 0

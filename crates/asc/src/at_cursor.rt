@@ -1,42 +1,17 @@
 // The line of the object at a cursor of a log.
 ghost use Rattle.std.specs.Prelude.{◌≡◌};
-ghost use Rattle.asc.specs.Objects.{lined, line_step, line_into};
+ghost use Rattle.asc.specs.Objects.{line_step, line_into};
 
 use crate::object::line_as;
-use objects::{Answer, Cursor};
-use outcomes::Written;
+use objects::{Cursor, Refusal};
 
-#[derive(Clone, Copy)]
-pub enum LineAt {
-    // The bytes of the line; 0 for an object of another type.
-    Line(usize),
-    // The position is exactly the log's end.
-    Done,
-    // 1 to 9 and the byte at fault, as a step tells them; or 10 at place 0.
-    Refused { number: u32, place: usize },
-}
-
-// The answer, and the cursor to go on with: as it was at done and at a refusal.
+// The answer with the next cursor, which after done and a refusal is the one before.
 #[derive(Clone, Copy)]
 pub struct LineStep {
-    pub answer: LineAt,
+    // The bytes of the line, 0 for an object of another type. No line: done, the position is exactly the log's end. A
+    // refusal is 1 to 9 and the byte at fault, as a step tells them; or 10 at place 0.
+    pub answer: Result<Option<usize>, Refusal>,
     pub next: Cursor,
-}
-
-// The answer to an object whose line was written, or refused.
-fn lined(w: Written, c: Cursor, next: Cursor) -> LineStep
-    ensures { result ≡ lined c.at next w }
-{
-    match w {
-        Written::Used(n) => LineStep {
-            answer: LineAt::Line(n),
-            next,
-        },
-        Written::Refused { number, place } => LineStep {
-            answer: LineAt::Refused { number, place },
-            next: c,
-        },
-    }
 }
 
 // Writes the line of the object at the cursor to the front of `out`.
@@ -44,20 +19,24 @@ pub fn line_at(log: &[u8], c: Cursor, out: &mut [u8]) -> LineStep
     ensures { (result ≡ line_step log.now c.at out.old) × (out.new ≡ line_into log.now c.at out.old) }
 {
     let step = c.step(log);
-    let next = step.next;
-    let answer = step.answer;
-    match answer {
-        Answer::Object { start, size, kind } => {
-            let w = line_as(kind, &log[start..start + size], out);
-            lined(w, c, next)
-        }
-        Answer::Done => LineStep {
-            answer: LineAt::Done,
-            next,
+    match step.answer {
+        Ok(Some(o)) => match line_as(o.kind, &log[o.start..o.start + o.size], out) {
+            Ok(n) => LineStep {
+                answer: Ok(Some(n)),
+                next: step.next,
+            },
+            Err(refusal) => LineStep {
+                answer: Err(refusal),
+                next: c,
+            },
         },
-        Answer::Refused { number, place } => LineStep {
-            answer: LineAt::Refused { number, place },
-            next,
+        Ok(None) => LineStep {
+            answer: Ok(None),
+            next: step.next,
+        },
+        Err(refusal) => LineStep {
+            answer: Err(refusal),
+            next: step.next,
         },
     }
 }

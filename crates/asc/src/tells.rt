@@ -1,51 +1,33 @@
 // What the line of a record tells.
-ghost use Rattle.std.specs.Prelude.{◌≤◌, ◌≡◌};
-ghost use Rattle.asc.specs.Tells.{head_told, kept, frame_told, counts_told};
+ghost use Rattle.std.specs.Prelude.{◌≡◌};
+ghost use Rattle.asc.specs.Tells.{head_told, frame_told, counts_told};
 
 use asc_lines::{Counts, Frame, Head};
 use headers::Header;
 
 // The time of a header, and a channel.
+#[tactic(auto, using(std::proofs::lemmas::Bool::Decides::nat_tests), unfolding(crate::specs::Tells::head_told, crate::specs::Tells::seconds_of, crate::specs::Tells::nanos_of))]
 pub(crate) fn head_told(h: Header, channel: u16) -> Head
     ensures { result ≡ head_told h channel }
 {
-    if h.unit == 1 {
-        return Head {
-            seconds: h.stamp / 100000,
-            nanos: (h.stamp % 100000 * 10000) as u32,
-            channel,
-        };
-    }
+    let (seconds, nanos) = if h.unit == 1 {
+        (h.stamp / 100_000, h.stamp % 100_000 * 10_000)
+    } else {
+        (h.stamp / 1_000_000_000, h.stamp % 1_000_000_000)
+    };
     Head {
-        seconds: h.stamp / 1000000000,
-        nanos: (h.stamp % 1000000000) as u32,
+        seconds,
+        nanos: nanos as u32,
         channel,
     }
-}
-
-// The first k of eight bytes, and zeros.
-fn keep(bytes: [u8; 8], k: usize) -> [u8; 8]
-    requires { k ≤ 8 }
-    ensures { result ≡ kept k bytes }
-{
-    if k == 8 {
-        return bytes;
-    }
-    let mut out = [0u8; 8];
-    let mut i = 0;
-    while i < k {
-        out[i] = bytes[i];
-        i += 1;
-    }
-    out
 }
 
 pub(crate) fn frame_told(r: can::Message) -> Frame
     ensures { result ≡ frame_told r }
 {
     let remote = 128 <= r.flags;
-    let all = r.bytes;
-    let bytes = keep(all, asc_lines::shown(remote, r.dlc));
+    let mut bytes = r.bytes;
+    bytes[asc_lines::shown(remote, r.dlc)..].fill(0);
     Frame {
         id: r.id % 2147483648,
         extended: 2147483648 <= r.id,
@@ -56,6 +38,7 @@ pub(crate) fn frame_told(r: can::Message) -> Frame
     }
 }
 
+#[tactic(auto, unfolding(crate::specs::Tells::counts_told))]
 pub(crate) fn counts_told(r: can::Statistic) -> Counts
     ensures { result ≡ counts_told r }
 {

@@ -322,7 +322,7 @@ module _ (c : Counts) (fit : FitCounts c) (s : List ℕ) (at : ℕ) (q : drop at
 
 module _ (h : Head) (fit : FitHead h) where
   pub overload_line : candidate (line_of (of_overload h)) ≡ of_overload h
-  unfolding candidate line_of rest_of of_overload
+  unfolding candidate line_of rest_of
   overload_line =
       let s = line_of (of_overload h) in
       let b : s ≡ head_of h ++ (32 ∷ text "OverloadFrame\r\n") = append_assoc (head_of h) (text " OverloadFrame") (text "\r\n") in
@@ -330,7 +330,7 @@ module _ (h : Head) (fit : FitHead h) where
       rw m (ap of_overload (head_found h fit s _ b))
 
   pub statistic_line : (c : Counts) → FitCounts c → candidate (line_of (of_statistic h c)) ≡ of_statistic h c
-  unfolding candidate line_of rest_of of_statistic counts_of labelled
+  unfolding candidate line_of rest_of counts_of labelled
   statistic_line c fits =
       let s = line_of (of_statistic h c) in
       let l = counts_of c ++ text "\r\n" in
@@ -340,7 +340,7 @@ module _ (h : Head) (fit : FitHead h) where
       rw m (ap₂ of_statistic (head_found h fit s (drop 1 l) b) (counts_found c fits s (head_end s) q))
 
   pub message_line : (f : Frame) → FitFrame f → candidate (line_of (of_message h f)) ≡ of_message h f
-  unfolding candidate line_of rest_of of_message id_of hex
+  unfolding candidate line_of rest_of id_of hex
   message_line f fits =
       let s = line_of (of_message h f) in
       let l = (id_of f ++ frame_of f) ++ text "\r\n" in

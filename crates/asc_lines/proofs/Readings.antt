@@ -1,24 +1,20 @@
 -- What is taken out of a text, as the code takes it, and the ways in which it is answered. Assumes nothing.
 use mathlib.Core.Path.{◌≡◌, refl, sym, ap, ap₂, ◌∙◌, subst}
-use mathlib.Core.Bool.{Bool, true, false, cond, ◌&&◌, false≢true}
+use mathlib.Core.Bool.{Bool, true, false, cond}
 use mathlib.Core.List.{List}
 use Prim.Native.Nat.{ℕ, ◌+◌, ◌*◌, ◌%◌, ◌^◌, ◌<◌}
-use borrow.Author.Tests.{eq-eqb, ne_eqb}
+use Rattle.std.specs.Prelude.{Some, None}
+use Rattle.std.specs.Bool.{then_some}
 use lib.ListN.{get_or}
 use lib.Dec.{eqb}
 use Rattle.digits.specs.Reading.{number}
 use Rattle.digits.specs.Pairs.{filled}
 use Rattle.digits.specs.declared.reading.Number.{Number}
 use Rattle.digits.proofs.Digits.{number_low}
-use Rattle.asc_lines.specs.declared.told.Head.{Head}
-use Rattle.asc_lines.specs.declared.told.Frame.{Frame}
-use Rattle.asc_lines.specs.declared.told.Counts.{Counts}
 use Rattle.asc_lines.specs.declared.told.Told.{Told}
-use Rattle.asc_lines.specs.declared.reading.Reading.{Reading}
-use Rattle.asc_lines.specs.Told.{of_message, of_overload, of_statistic, shown}
+use Rattle.asc_lines.specs.Told.{shown}
 use Rattle.asc_lines.specs.Lines.{line_of}
-use Rattle.asc_lines.specs.Reading.{stands, seconds_in, nanos_in, channel_in, head_in, head_end, id_in, mid_in, dlc_in, frame_in, count_in, d_in, r_in, xd_in, xr_in, e_in, o_in, whole_in, load_in, counts_in, candidate, possible_time, same, told, no_line, line_read}
-use Rattle.asc_lines.proofs.Sames.{same_refl, same_not}
+use Rattle.asc_lines.specs.Reading.{stands, seconds_in, nanos_in, channel_in, head_in, head_end, id_in, mid_in, dlc_in, frame_in, count_in, d_in, r_in, xd_in, xr_in, e_in, o_in, whole_in, load_in, counts_in, candidate, possible_time, same, line_in}
 
 -- a number of at most k digits is below b ^ k
 pub low : (b k : ℕ) (s : List ℕ) (at : ℕ) {n : Number} → 1 < b → n ≡ number b k s at → n.value < b ^ k
@@ -47,7 +43,7 @@ module _ (s : List ℕ) (a b c : Number) (ea : a ≡ number 10 15 s 0) (eb : b �
 
 -- the frame, from its numbers and marks
 module _ (s : List ℕ) (at : ℕ) (id : Number) (x mid w k : ℕ) (dlc : Number) (n : ℕ) (bs : List ℕ)
-    (ei : id ≡ number 16 8 s (at + 1)) (ex : x ≡ get_or s id.end 0) (em : mid ≡ id.end + cond (stands 120 s id.end) 1 0)
+    (ei : id ≡ number 16 8 s (at + 1)) (ex : x ≡ get_or s id.end 0) (em : mid ≡ id.end + cond (eqb x 120) 1 0)
     (ew : w ≡ get_or s (mid + 1) 0) (ek : k ≡ get_or s (mid + 4) 0) (ed : dlc ≡ number 10 3 s (mid + 6))
     (en : n ≡ shown (eqb k 114) (dlc.value % 256)) (eb : bs ≡ filled n s dlc.end) where
   the_id : id ≡ id_in s at
@@ -59,7 +55,7 @@ module _ (s : List ℕ) (at : ℕ) (id : Number) (x mid w k : ℕ) (dlc : Number
 
   the_mid : mid ≡ mid_in s at
   unfolding mid_in
-  the_mid = em ∙ ap (λ (v : Number). v.end + cond (stands 120 s v.end) 1 0) the_id
+  the_mid = em ∙ ap₂ (λ (v : Number) (b : Bool). v.end + cond b 1 0) the_id the_mark
 
   the_way : eqb w 84 ≡ stands 84 s (mid_in s at + 1)
   the_way = ap (λ (v : ℕ). eqb v 84) ew ∙ ap (λ (m : ℕ). stands 84 s (m + 1)) the_mid
@@ -144,45 +140,16 @@ module _ (s : List ℕ) (at : ℕ) (d r xd xr e o : Number) (load : ℕ) (ed : d
     overloads = (the_o i).value % 4294967296;
   }
 
--- what a text tells, by the byte behind the channel and its blank
-module _ (s : List ℕ) {h : Head} {at m : ℕ} (eh : h ≡ head_in s) (ea : at ≡ head_end s) (em : m ≡ get_or s (at + 1) 0) where
-  byte : m ≡ get_or s (head_end s + 1) 0
-  byte = em ∙ ap (λ (j : ℕ). get_or s (j + 1) 0) ea
+-- what a text tells, by the time of its candidate and by whether the line is the text
+module _ (s : List ℕ) (t : Told) (e : t ≡ candidate s) where
+  pub no_time : possible_time t.head.seconds t.head.nanos ≡ false → None ≡ line_in s
+  unfolding line_in
+  no_time p = rw (← e, p)
 
-  pub candidate_overload : {t : Told} → m ≡ 79 → t ≡ of_overload h → t ≡ candidate s
-  unfolding candidate
-  candidate_overload e q = rw (eq-eqb (get_or s (head_end s + 1) 0) 79 (sym byte ∙ e)) (q ∙ ap of_overload eh)
-
-  pub candidate_statistic : {t : Told} → (m ≡ 79 → ⊥) → m ≡ 83 → {c : Counts} → c ≡ counts_in s at → t ≡ of_statistic h c → t ≡ candidate s
-  unfolding candidate
-  candidate_statistic n e {c} k q =
-      let k' : c ≡ counts_in s (head_end s) = k ∙ ap (counts_in s) ea in
-      rw (ne_eqb (get_or s (head_end s + 1) 0) 79 (λ z. n (byte ∙ z)), eq-eqb (get_or s (head_end s + 1) 0) 83 (sym byte ∙ e)) (q ∙ ap₂ of_statistic eh k')
-
-  pub candidate_message : {t : Told} → (m ≡ 79 → ⊥) → (m ≡ 83 → ⊥) → {f : Frame} → f ≡ frame_in s at → t ≡ of_message h f → t ≡ candidate s
-  unfolding candidate
-  candidate_message n o {f} k q =
-      let k' : f ≡ frame_in s (head_end s) = k ∙ ap (frame_in s) ea in
-      rw (ne_eqb (get_or s (head_end s + 1) 0) 79 (λ z. n (byte ∙ z)), ne_eqb (get_or s (head_end s + 1) 0) 83 (λ z. o (byte ∙ z))) (q ∙ ap₂ of_message eh k')
-
-and_false : (b : Bool) → (b && false) ≡ false
-and_false true = refl
-and_false false = refl
-
--- the answers
-module _ (s : List ℕ) (t : Told) (et : t ≡ candidate s) where
-  is : candidate s ≡ t
-  is = sym et
-
-  module _ {r : Reading} (e : r ≡ no_line) where
-    pub no_time : {p : Bool} → p ≡ possible_time t.head.seconds t.head.nanos → p ≡ false → r ≡ line_read s
-    unfolding line_read
-    no_time {p} q f = rw (is, sym q ∙ f) e
-
-    pub unlike : {l : List ℕ} → l ≡ line_of t → {p : Bool} → (l ≡ s → p ≡ true) → p ≡ false → r ≡ line_read s
-    unfolding line_read
-    unlike {l} w {p} k f = rw (is, same_not (line_of t) s (λ q. false≢true (sym f ∙ k (w ∙ q))), and_false) e
-
-  pub alike : {p : Bool} → p ≡ possible_time t.head.seconds t.head.nanos → p ≡ true → line_of t ≡ s → told t ≡ line_read s
-  unfolding line_read
-  alike {p} q y e = rw (is, sym q ∙ y, subst (λ (x : List ℕ). same (line_of t) x ≡ true) e (same_refl (line_of t)))
+  pub by_line : possible_time t.head.seconds t.head.nanos ≡ true → {b : Bool} → b ≡ same (line_of t) s → then_some b t ≡ line_in s
+  unfolding line_in
+  by_line p {b} q = rw (← e, p, ← q) (some b)
+    where
+      some : (b : Bool) → then_some b t ≡ cond b (Some t) None
+      some true = refl
+      some false = refl

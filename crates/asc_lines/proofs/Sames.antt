@@ -1,5 +1,5 @@
 -- Texts compared byte for byte. Assumes nothing.
-use mathlib.Core.Path.{◌≡◌, refl, ap₂}
+use mathlib.Core.Path.{◌≡◌, refl, sym, ap₂, ◌∙◌, subst}
 use mathlib.Core.Bool.{Bool, true, false, ◌&&◌, false≢true}
 use mathlib.Core.List.{List, [], ◌∷◌}
 use Prim.Native.Nat.{ℕ}
@@ -23,9 +23,12 @@ same_eq (x ∷ s) (y ∷ t) e = both (eqb x y) refl e (same_eq s t)
     both true p q h = ap₂ (λ (a : ℕ) (l : List ℕ). a ∷ l) (eqb-true x y p) (h q)
     both false p q h = absurd (false≢true q)
 
-pub same_not : (s t : List ℕ) → (s ≡ t → ⊥) → same s t ≡ false
-same_not s t h = cases (same s t) refl
+-- a test that tells texts apart
+pub same_by : (s t : List ℕ) {b : Bool} → (b ≡ true → s ≡ t) → (s ≡ t → b ≡ true) → b ≡ same s t
+same_by s t {b} f g = cases b (same s t) refl refl
   where
-    cases : (b : Bool) → same s t ≡ b → same s t ≡ false
-    cases true e = absurd (h (same_eq s t e))
-    cases false e = e
+    cases : (x y : Bool) → b ≡ x → same s t ≡ y → x ≡ y
+    cases true true p q = refl
+    cases true false p q = sym (subst (λ (u : List ℕ). same s u ≡ true) (f p) (same_refl s)) ∙ q
+    cases false true p q = sym p ∙ g (same_eq s t q)
+    cases false false p q = refl

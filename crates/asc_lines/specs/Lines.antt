@@ -1,11 +1,13 @@
 -- W-201: the line of what is told. One space between items; CR LF at the end.
-use Rattle.std.specs.Prelude.{ℕ, ◌/◌, ◌%◌, Bool, cond, List, [], ◌++◌, take, eqb}
+use Rattle.std.specs.Prelude.{ℕ, ◌/◌, ◌%◌, Bool, cond, List, [], ◌++◌, take}
 use Rattle.digits.specs.Digits.{decimal, hex, fixed}
 use Rattle.digits.specs.Pairs.{pairs}
 use Rattle.digits.specs.Text.{text, labelled}
 use Rattle.asc_lines.specs.declared.told.Head.{Head}
 use Rattle.asc_lines.specs.declared.told.Frame.{Frame}
 use Rattle.asc_lines.specs.declared.told.Counts.{Counts}
+use Rattle.asc_lines.specs.declared.told.Kind.{Kind}
+use Rattle.asc_lines.specs.declared.told.Kind.TheVariants.{Message, Overload, Statistic}
 use Rattle.asc_lines.specs.declared.told.Told.{Told}
 use Rattle.asc_lines.specs.Told.{shown}
 
@@ -49,13 +51,12 @@ frames_of c =
 unfoldable pub counts_of : Counts → List ℕ
 counts_of c = frames_of c ++ labelled (text " E ") c.errors ++ labelled (text " O ") c.overloads ++ load_of c.load
 
--- what stands behind the channel: 3 is an overload, 4 a statistic, and else it is a message
-unfoldable pub rest_of : Told → List ℕ
-rest_of t =
-    cond (eqb t.kind 3) (text " OverloadFrame")
-    (cond (eqb t.kind 4) (counts_of t.counts)
-    (id_of t.frame ++ frame_of t.frame))
+-- what stands behind the channel
+unfoldable pub rest_of : Kind → List ℕ
+rest_of (Message f) = id_of f ++ frame_of f
+rest_of Overload = text " OverloadFrame"
+rest_of (Statistic c) = counts_of c
 
 -- the line of what is told
 unfoldable pub line_of : Told → List ℕ
-line_of t = head_of t.head ++ rest_of t ++ text "\r\n"
+line_of t = head_of t.head ++ rest_of t.kind ++ text "\r\n"

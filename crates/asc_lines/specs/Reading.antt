@@ -1,7 +1,7 @@
 -- W-201: a text read as a line. Its numbers are taken out of it, at most so many digits of each and what fits the
 -- field; then it is what they tell where a stamp can have this time and their line is this very text. What that means
 -- of records is `line_exact` and `no_line_exact` of asc/proofs/Exact.
-use Rattle.std.specs.Prelude.{ℕ, ◌+◌, ◌*◌, ◌/◌, ◌%◌, Bool, true, false, cond, ◌&&◌, ◌||◌, List, [], ◌∷◌, get_or, ltb, eqb}
+use Rattle.std.specs.Prelude.{ℕ, ◌+◌, ◌*◌, ◌/◌, ◌%◌, Bool, true, false, cond, ◌&&◌, ◌||◌, Option, Some, None, List, [], ◌∷◌, get_or, ltb, eqb}
 use Rattle.digits.specs.Reading.{number}
 use Rattle.digits.specs.Pairs.{filled}
 use Rattle.digits.specs.declared.reading.Number.{Number}
@@ -9,9 +9,7 @@ use Rattle.asc_lines.specs.declared.told.Head.{Head}
 use Rattle.asc_lines.specs.declared.told.Frame.{Frame}
 use Rattle.asc_lines.specs.declared.told.Counts.{Counts}
 use Rattle.asc_lines.specs.declared.told.Told.{Told}
-use Rattle.asc_lines.specs.declared.reading.Reading.{Reading}
-use Rattle.asc_lines.specs.declared.reading.LineAnswer.TheVariants.{Line, Refused}
-use Rattle.asc_lines.specs.Told.{no_frame, no_counts, of_message, of_overload, of_statistic, shown}
+use Rattle.asc_lines.specs.Told.{of_message, of_overload, of_statistic, shown}
 use Rattle.asc_lines.specs.Lines.{line_of}
 
 -- whether a byte stands at a place
@@ -117,14 +115,8 @@ same [] (y ∷ ys) = false
 same (x ∷ xs) [] = false
 same (x ∷ xs) (y ∷ ys) = eqb x y && same xs ys
 
--- the text is a line and tells t; it is none: 30, and zeros
-unfoldable pub told : Told → Reading
-told t = record { answer = Line; told = t }
-
-unfoldable pub no_line : Reading
-no_line = record { answer = Refused 30 0; told = record { kind = 0; head = record { seconds = 0; nanos = 0; channel = 0 }; frame = no_frame; counts = no_counts } }
-
-unfoldable pub line_read : List ℕ → Reading
-line_read s =
+-- what a text tells; none where it is no line
+unfoldable pub line_in : List ℕ → Option Told
+line_in s =
     let t = candidate s in
-    cond (possible_time t.head.seconds t.head.nanos && same (line_of t) s) (told t) no_line
+    cond (possible_time t.head.seconds t.head.nanos && same (line_of t) s) (Some t) None

@@ -1,8 +1,10 @@
--- W-201: what a line tells, by the type of its object; zeros where a line of that type does not tell them.
+-- W-201: what a line tells, by the type of its object; and zeros for what a line of that type does not tell.
 use Rattle.std.specs.Prelude.{ℕ, min, Bool, false, cond, replicate}
 use Rattle.asc_lines.specs.declared.told.Head.{Head}
 use Rattle.asc_lines.specs.declared.told.Frame.{Frame}
 use Rattle.asc_lines.specs.declared.told.Counts.{Counts}
+use Rattle.asc_lines.specs.declared.told.Kind.{Kind}
+use Rattle.asc_lines.specs.declared.told.Kind.TheVariants.{Message, Overload, Statistic}
 use Rattle.asc_lines.specs.declared.told.Told.{Told}
 
 unfoldable pub no_frame : Frame
@@ -20,14 +22,30 @@ no_counts =
       overloads = 0;
     }
 
-unfoldable pub of_message : Head → Frame → Told
-of_message h f = record { kind = 1; head = h; frame = f; counts = no_counts }
+abbrev pub of_message : Head → Frame → Told
+of_message h f = record { head = h; kind = Message f }
 
-unfoldable pub of_overload : Head → Told
-of_overload h = record { kind = 3; head = h; frame = no_frame; counts = no_counts }
+abbrev pub of_overload : Head → Told
+of_overload h = record { head = h; kind = Overload }
 
-unfoldable pub of_statistic : Head → Counts → Told
-of_statistic h c = record { kind = 4; head = h; frame = no_frame; counts = c }
+abbrev pub of_statistic : Head → Counts → Told
+of_statistic h c = record { head = h; kind = Statistic c }
+
+-- the object's type; its frame and its counts
+abbrev pub kind_number : Kind → ℕ
+kind_number (Message f) = 1
+kind_number Overload = 3
+kind_number (Statistic c) = 4
+
+abbrev pub kind_frame : Kind → Frame
+kind_frame (Message f) = f
+kind_frame Overload = no_frame
+kind_frame (Statistic c) = no_frame
+
+abbrev pub kind_counts : Kind → Counts
+kind_counts (Message f) = no_counts
+kind_counts Overload = no_counts
+kind_counts (Statistic c) = c
 
 -- how many bytes stand in a message's line: none behind `r`, else the first DLC of them, eight at most
 unfoldable pub shown : Bool → ℕ → ℕ

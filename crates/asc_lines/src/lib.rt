@@ -5,6 +5,6 @@ mod reading;
 mod told;
 mod writing;
 
-pub use reading::{LineAnswer, Reading, read};
-pub use told::{Counts, Frame, Head, Told, of_message, of_overload, of_statistic, shown};
-pub use writing::{put_message, put_overload, put_statistic};
+pub use reading::read;
+pub use told::{Counts, Frame, Head, Kind, Told, shown};
+pub use writing::put_line;

@@ -1,28 +1,10 @@
 // A text read as a line.
-ghost use Rattle.std.specs.Prelude.{◌+◌, ◌≤◌, ◌≡◌, cond};
-ghost use Rattle.asc_lines.specs.Reading.{stands, head_in, head_end, frame_in, load_in, counts_in, possible_time, no_line, line_read};
+ghost use Rattle.std.specs.Prelude.{◌≤◌, ◌≡◌};
+ghost use Rattle.asc_lines.specs.Reading.{head_in, head_end, frame_in, load_in, counts_in, possible_time, line_in};
 ghost use Rattle.asc_lines.specs.Reading.{candidate as Reading·candidate};
 
-use crate::told::{
-    Counts, Frame, Head, Told, no_counts, no_frame, of_message, of_overload, of_statistic, shown,
-};
+use crate::told::{Counts, Frame, Head, Kind, Told, shown};
 use crate::writing::put_line;
-
-// Whether a text is a line.
-#[derive(Clone, Copy)]
-pub enum LineAnswer {
-    // It is: what it tells stands beside this.
-    Line,
-    // It is none: 30, place 0.
-    Refused { number: u32, place: usize },
-}
-
-// The answer, and what the line tells: zeros where there is none.
-#[derive(Clone, Copy)]
-pub struct Reading {
-    pub answer: LineAnswer,
-    pub told: Told,
-}
 
 // The head of a text, and the place behind it.
 #[derive(Clone, Copy)]
@@ -46,27 +28,16 @@ fn read_head(s: &[u8]) -> HeadRead
     HeadRead { head, end: c.end }
 }
 
-// The place behind the `x` of an extended id, if one stands there.
-fn past_mark(s: &[u8], at: usize) -> usize
-    requires { at ≤ 40 }
-    ensures { (result ≡ at + cond (stands 120 s.now at) 1 0) × (result ≤ at + 1) }
-{
-    if digits::byte(s, at) == 120 {
-        return at + 1;
-    }
-    at
-}
-
 // ` ID Rx d DLC BYTES`
 fn read_frame(s: &[u8], at: usize) -> Frame
     requires { at ≤ 31 }
     ensures { result ≡ frame_in s.now at }
 {
     let id = digits::read_number(s, at + 1, 16, 8);
-    let extended = digits::byte(s, id.end) == 120;
-    let mid = past_mark(s, id.end);
-    let sent = digits::byte(s, mid + 1) == 84;
-    let remote = digits::byte(s, mid + 4) == 114;
+    let extended = digits::byte(s, id.end) == b'x';
+    let mid = id.end + usize::from(extended);
+    let sent = digits::byte(s, mid + 1) == b'T';
+    let remote = digits::byte(s, mid + 4) == b'r';
     let dlc = digits::read_number(s, mid + 6, 10, 3);
     let length = (dlc.value % 256) as u8;
     let bytes = digits::get_pairs(shown(remote, length), s, dlc.end);
@@ -113,82 +84,39 @@ fn read_counts(s: &[u8], at: usize) -> Counts
     }
 }
 
-// What a text tells, if it is a line.
+// What a text tells, if it is a line: an `O` or an `S` behind the channel says which.
 fn candidate(s: &[u8]) -> Told
     ensures { result ≡ Reading·candidate s.now }
 {
     let h = read_head(s);
-    let head = h.head;
-    let at = h.end;
-    let mark = digits::byte(s, at + 1);
-    if mark == 79 {
-        return of_overload(head);
-    }
-    if mark == 83 {
-        let counts = read_counts(s, at);
-        return of_statistic(head, counts);
-    }
-    let frame = read_frame(s, at);
-    of_message(head, frame)
+    let kind = match digits::byte(s, h.end + 1) {
+        b'O' => Kind::Overload,
+        b'S' => Kind::Statistic(read_counts(s, h.end)),
+        _ => Kind::Message(read_frame(s, h.end)),
+    };
+    Told { head: h.head, kind }
 }
 
 // Whether a stamp of 64 bits has this time, in one of the two units.
+#[tactic(auto, using(std::proofs::lemmas::Bool::Decides::nat_tests), unfolding(crate::specs::Reading::possible_time))]
 fn possible(seconds: u64, nanos: u32) -> bool
     ensures { result ≡ possible_time seconds nanos }
 {
     let over = nanos as u64;
-    if 1000000000 <= over {
-        return false;
-    }
-    if seconds <= (18446744073709551615 - over) / 1000000000 {
-        return true;
-    }
-    if over % 10000 != 0 {
-        return false;
-    }
-    seconds <= (18446744073709551615 - over / 10000) / 100000
+    over < 1_000_000_000
+        && (seconds <= (u64::MAX - over) / 1_000_000_000
+            || over % 10_000 == 0 && seconds <= (u64::MAX - over / 10_000) / 100_000)
 }
 
-fn refused() -> Reading
-    ensures { result ≡ no_line }
+// What a line tells; none where the text is no line.
+pub fn read(s: &[u8]) -> Option<Told>
+    ensures { result ≡ line_in s.now }
 {
-    let head = Head {
-        seconds: 0,
-        nanos: 0,
-        channel: 0,
-    };
-    let frame = no_frame();
-    let counts = no_counts();
-    Reading {
-        answer: LineAnswer::Refused {
-            number: 30,
-            place: 0,
-        },
-        told: Told {
-            kind: 0,
-            head,
-            frame,
-            counts,
-        },
-    }
-}
-
-// What a line tells, or 30 where the text is no line.
-pub fn read(s: &[u8]) -> Reading
-    ensures { result ≡ line_read s.now }
-{
-    let t = candidate(s);
-    let head = t.head;
-    if !possible(head.seconds, head.nanos) {
-        return refused();
+    let told = candidate(s);
+    if !possible(told.head.seconds, told.head.nanos) {
+        return None;
     }
     let mut line = [0u8; 256];
-    let n = put_line(t, &mut line);
-    if !check::same(&line[n..], s) {
-        return refused();
-    }
-    Reading {
-        answer: LineAnswer::Line,
-        told: t,
-    }
+    let n = put_line(told, &mut line);
+    check::same(&line[n..], s).then_some(told)
 }

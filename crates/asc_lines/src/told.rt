@@ -1,6 +1,6 @@
 // What a line tells.
 ghost use Rattle.std.specs.Prelude.{◌≤◌, ◌≡◌};
-ghost use Rattle.asc_lines.specs.Told.{no_frame, no_counts, of_message, of_overload, of_statistic};
+ghost use Rattle.asc_lines.specs.Told.{kind_number, kind_frame, kind_counts};
 ghost use Rattle.asc_lines.specs.Told.{shown as Told·shown};
 
 // The time, as whole seconds and the nanoseconds over, and the channel: every line has them.
@@ -12,7 +12,7 @@ pub struct Head {
 }
 
 // What a message's line tells.
-#[derive(Clone, Copy)]
+#[derive(Clone, Copy, Default)]
 pub struct Frame {
     // without bit 31, which says extended
     pub id: u32,
@@ -26,7 +26,7 @@ pub struct Frame {
 }
 
 // What a statistic's line tells, in the object's order.
-#[derive(Clone, Copy)]
+#[derive(Clone, Copy, Default)]
 pub struct Counts {
     // in 1/100 percent
     pub load: u16,
@@ -38,88 +38,59 @@ pub struct Counts {
     pub overloads: u32,
 }
 
-// What a line tells: the type of its object, 1, 3 or 4; and zeros where such a line does not tell them.
+// What stands behind the channel, by the type of the line's object.
+#[derive(Clone, Copy)]
+pub enum Kind {
+    Message(Frame),
+    Overload,
+    Statistic(Counts),
+}
+
+// What a line tells.
 #[derive(Clone, Copy)]
 pub struct Told {
-    pub kind: u32,
     pub head: Head,
-    pub frame: Frame,
-    pub counts: Counts,
+    pub kind: Kind,
 }
 
-pub(crate) fn no_frame() -> Frame
-    ensures { result ≡ no_frame }
-{
-    Frame {
-        id: 0,
-        extended: false,
-        sent: false,
-        remote: false,
-        dlc: 0,
-        bytes: [0; 8],
+impl Kind {
+    // The object's type.
+    pub fn number(self) -> u32
+        ensures { result ≡ kind_number self }
+    {
+        match self {
+            Kind::Message(_) => 1,
+            Kind::Overload => 3,
+            Kind::Statistic(_) => 4,
+        }
     }
-}
 
-pub(crate) fn no_counts() -> Counts
-    ensures { result ≡ no_counts }
-{
-    Counts {
-        load: 0,
-        standard_data: 0,
-        extended_data: 0,
-        standard_remote: 0,
-        extended_remote: 0,
-        errors: 0,
-        overloads: 0,
+    // The message's frame; zeros where it is none.
+    pub fn frame(self) -> Frame
+        ensures { result ≡ kind_frame self }
+    {
+        match self {
+            Kind::Message(frame) => frame,
+            _ => Frame::default(),
+        }
     }
-}
 
-pub fn of_message(head: Head, frame: Frame) -> Told
-    ensures { result ≡ of_message head frame }
-{
-    let counts = no_counts();
-    Told {
-        kind: 1,
-        head,
-        frame,
-        counts,
-    }
-}
-
-pub fn of_overload(head: Head) -> Told
-    ensures { result ≡ of_overload head }
-{
-    let frame = no_frame();
-    let counts = no_counts();
-    Told {
-        kind: 3,
-        head,
-        frame,
-        counts,
-    }
-}
-
-pub fn of_statistic(head: Head, counts: Counts) -> Told
-    ensures { result ≡ of_statistic head counts }
-{
-    let frame = no_frame();
-    Told {
-        kind: 4,
-        head,
-        frame,
-        counts,
+    // The statistic's counts; zeros where it is none.
+    #[tactic(auto, unfolding(crate::specs::Told::no_counts))]
+    pub fn counts(self) -> Counts
+        ensures { result ≡ kind_counts self }
+    {
+        match self {
+            Kind::Statistic(counts) => counts,
+            _ => Counts::default(),
+        }
     }
 }
 
 // How many bytes stand in a message's line.
+#[tactic(auto, unfolding(crate::specs::Told::shown))]
 pub fn shown(remote: bool, dlc: u8) -> usize
     ensures { (result ≡ Told·shown remote dlc) × (result ≤ 8) }
 {
-    if remote {
-        return 0;
-    }
-    if dlc < 8 {
-        return dlc as usize;
-    }
-    8
+    if remote { 0 } else { usize::from(dlc).min(8) }
 }

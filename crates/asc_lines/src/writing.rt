@@ -1,13 +1,11 @@
 // The line of what is told, written to a buffer's end: each function puts its text before a place and answers where the
 // text starts, the inner ones also how far before that can be. No line has more than 231 bytes, whatever is told; the
 // longest that a record has are 134.
-ghost use Rattle.std.specs.Prelude.{◌+◌, ◌≤◌, length, take};
+ghost use Rattle.std.specs.Prelude.{◌+◌, ◌≤◌, length};
 ghost use Rattle.digits.specs.Text.{Said};
-ghost use Rattle.digits.specs.Pairs.{pairs};
-ghost use Rattle.asc_lines.specs.Told.{of_message, of_overload, of_statistic};
-ghost use Rattle.asc_lines.specs.Lines.{head_of, id_of, mark_of, way_of, sort_of, frame_of, load_of, frames_of, counts_of, line_of};
+ghost use Rattle.asc_lines.specs.Lines.{head_of, id_of, frame_of, load_of, frames_of, counts_of, rest_of, line_of};
 
-use crate::told::{Counts, Frame, Head, Told, shown};
+use crate::told::{Counts, Frame, Head, Kind, Told, shown};
 
 // `TIME CHANNEL`
 fn put_head(h: Head, out: &mut [u8], end: usize) -> usize
@@ -25,50 +23,10 @@ fn put_id(f: Frame, out: &mut [u8], end: usize) -> usize
     requires { (18 ≤ end) × (end ≤ length out.old) }
     ensures { Said result (id_of f) out.old out.new end × (end ≤ result + 18) }
 {
-    let a = put_mark(f.extended, out, end);
+    let mark: &[u8] = if f.extended { b"x" } else { b"" };
+    let a = digits::put(mark, out, end);
     let b = digits::hex(f.id as u64, out, a);
     digits::put(b" ", out, b)
-}
-
-// An `x` behind an extended id.
-fn put_mark(extended: bool, out: &mut [u8], end: usize) -> usize
-    requires { (1 ≤ end) × (end ≤ length out.old) }
-    ensures { Said result (mark_of extended) out.old out.new end × (end ≤ result + 1) }
-{
-    if extended {
-        return digits::put(b"x", out, end);
-    }
-    digits::put(b"", out, end)
-}
-
-// The direction.
-fn put_way(sent: bool, out: &mut [u8], end: usize) -> usize
-    requires { (3 ≤ end) × (end ≤ length out.old) }
-    ensures { Said result (way_of sent) out.old out.new end × (end ≤ result + 3) }
-{
-    if sent {
-        return digits::put(b" Tx", out, end);
-    }
-    digits::put(b" Rx", out, end)
-}
-
-// Data or remote.
-fn put_sort(remote: bool, out: &mut [u8], end: usize) -> usize
-    requires { (3 ≤ end) × (end ≤ length out.old) }
-    ensures { Said result (sort_of remote) out.old out.new end × (end ≤ result + 3) }
-{
-    if remote {
-        return digits::put(b" r ", out, end);
-    }
-    digits::put(b" d ", out, end)
-}
-
-// The first k bytes.
-fn put_shown(bytes: [u8; 8], k: usize, out: &mut [u8], end: usize) -> usize
-    requires { (k ≤ 8) × (24 ≤ end) × (end ≤ length out.old) }
-    ensures { Said result (pairs (take k bytes)) out.old out.new end × (end ≤ result + 24) }
-{
-    digits::put_pairs(&bytes, k, out, end)
 }
 
 // ` Rx d DLC BYTES`
@@ -76,12 +34,13 @@ fn put_frame(f: Frame, out: &mut [u8], end: usize) -> usize
     requires { (50 ≤ end) × (end ≤ length out.old) }
     ensures { Said result (frame_of f) out.old out.new end × (end ≤ result + 50) }
 {
-    let bytes = f.bytes;
-    let k = shown(f.remote, f.dlc);
-    let a = put_shown(bytes, k, out, end);
+    let sort = if f.remote { b" r " } else { b" d " };
+    let way = if f.sent { b" Tx" } else { b" Rx" };
+    let bytes = &f.bytes[..shown(f.remote, f.dlc)];
+    let a = digits::put_pairs(bytes, out, end);
     let b = digits::decimal(f.dlc as u64, out, a);
-    let c = put_sort(f.remote, out, b);
-    put_way(f.sent, out, c)
+    let c = digits::put(sort, out, b);
+    digits::put(way, out, c)
 }
 
 // ` B p.pp%`
@@ -117,51 +76,28 @@ fn put_counts(c: Counts, out: &mut [u8], end: usize) -> usize
     put_frames(c, out, e)
 }
 
-// The line of a message.
-pub fn put_message(h: Head, f: Frame, out: &mut [u8]) -> usize
-    requires { 231 ≤ length out.old }
-    ensures { Said result (line_of (of_message h f)) out.old out.new (length out.old) }
+// What stands behind the channel.
+fn put_rest(kind: Kind, out: &mut [u8], end: usize) -> usize
+    requires { (178 ≤ end) × (end ≤ length out.old) }
+    ensures { Said result (rest_of kind) out.old out.new end × (end ≤ result + 178) }
 {
-    let end = out.len();
-    let a = digits::put(b"\r\n", out, end);
-    let b = put_frame(f, out, a);
-    let c = put_id(f, out, b);
-    put_head(h, out, c)
+    match kind {
+        Kind::Message(frame) => {
+            let a = put_frame(frame, out, end);
+            put_id(frame, out, a)
+        }
+        Kind::Overload => digits::put(b" OverloadFrame", out, end),
+        Kind::Statistic(counts) => put_counts(counts, out, end),
+    }
 }
 
-// The line of an overload.
-pub fn put_overload(h: Head, out: &mut [u8]) -> usize
-    requires { 231 ≤ length out.old }
-    ensures { Said result (line_of (of_overload h)) out.old out.new (length out.old) }
-{
-    let end = out.len();
-    let a = digits::put(b"\r\n", out, end);
-    let b = digits::put(b" OverloadFrame", out, a);
-    put_head(h, out, b)
-}
-
-// The line of a statistic.
-pub fn put_statistic(h: Head, c: Counts, out: &mut [u8]) -> usize
-    requires { 231 ≤ length out.old }
-    ensures { Said result (line_of (of_statistic h c)) out.old out.new (length out.old) }
-{
-    let end = out.len();
-    let a = digits::put(b"\r\n", out, end);
-    let b = put_counts(c, out, a);
-    put_head(h, out, b)
-}
-
-// The line of whatever is told.
-pub(crate) fn put_line(t: Told, out: &mut [u8]) -> usize
+// The line of what is told.
+pub fn put_line(t: Told, out: &mut [u8]) -> usize
     requires { 231 ≤ length out.old }
     ensures { Said result (line_of t) out.old out.new (length out.old) }
 {
-    let kind = t.kind;
-    if kind == 3 {
-        return put_overload(t.head, out);
-    }
-    if kind == 4 {
-        return put_statistic(t.head, t.counts, out);
-    }
-    put_message(t.head, t.frame, out)
+    let end = out.len();
+    let a = digits::put(b"\r\n", out, end);
+    let b = put_rest(t.kind, out, a);
+    put_head(t.head, out, b)
 }

@@ -1,45 +1,17 @@
 -- The reply to a case, way by way. Assumes nothing.
-use mathlib.Core.Path.{◌≡◌, refl, sym}
-use mathlib.Core.List.{List, [], ◌∷◌}
+use mathlib.Core.Path.{◌≡◌, sym}
+use mathlib.Core.List.{List}
 use Prim.Native.Nat.{ℕ, ◌+◌, ◌-◌, ◌≤◌, ◌<◌}
 use native.Mathlib.Omega.{arith}
 use borrow.Author.Tests.{le-leb, lt-leb, eq-eqb, ne_eqb}
-use package.types.Run.{OneOf}
-use denote.Enum.Declared.{tag_of}
 use lib.ListN.{length, take, drop}
 use Rattle.fields.specs.Numbers.{num}
 use Rattle.fields.proofs.Parts.{tail}
-use Rattle.objects.specs.contracts.Answer.{the_type}
-use Rattle.objects.specs.declared.Answer.{Answer}
-use Rattle.objects.specs.declared.Answer.TheVariants.{Object, Done, Refused}
-use Rattle.objects.specs.Next.{next_at}
-use Rattle.objects.specs.Walk.{walk_of}
-use Rattle.objects.specs.Replies.{walk_reply}
-use Rattle.slips.specs.Check.{check_of}
-use Rattle.slips.specs.Replies.{check_reply}
 use Rattle.cases.specs.declared.replies.Reply.{Reply}
-use Rattle.cases.specs.Replies.{replied, step_reply, count_reply, reply_to, reply_of}
+use Rattle.cases.specs.Replies.{replied, reply_to, reply_of}
 
--- the answer by its tag
-pub done : (a : Answer) → OneOf (1 ∷ []) (tag_of the_type a) → a ≡ Done
-done (Object start size kind) q = absurd (omega arith)
-done Done q = refl
-done (Refused number place) q = absurd (omega arith)
-
--- each question
+-- none of the three questions
 module _ (q at : ℕ) (s b : List ℕ) where
-  pub step_asked : q ≡ 1 → step_reply (next_at s at) ≡ reply_to q at s b
-  unfolding reply_to
-  step_asked e = rw (eq-eqb q 1 e)
-
-  pub walk_asked : (q ≡ 1 → ⊥) → q ≡ 2 → count_reply (walk_reply (walk_of s)) ≡ reply_to q at s b
-  unfolding reply_to
-  walk_asked n e = rw (ne_eqb q 1 n, eq-eqb q 2 e)
-
-  pub check_asked : (q ≡ 1 → ⊥) → (q ≡ 2 → ⊥) → q ≡ 3 → count_reply (check_reply (check_of s b)) ≡ reply_to q at s b
-  unfolding reply_to
-  check_asked n m e = rw (ne_eqb q 1 n, ne_eqb q 2 m, eq-eqb q 3 e)
-
   pub not_asked : (q ≡ 1 → ⊥) → (q ≡ 2 → ⊥) → (q ≡ 3 → ⊥) → replied 0 0 0 0 0 ≡ reply_to q at s b
   unfolding reply_to
   not_asked n m k = rw (ne_eqb q 1 n, ne_eqb q 2 m, ne_eqb q 3 k)

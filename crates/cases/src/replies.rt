@@ -33,10 +33,8 @@ pub(crate) fn numbers(word: u64, first: u64, second: u64, third: u64, next: u64)
 fn step_reply(step: Step) -> Reply
     ensures { result ≡ step_reply step }
 {
-    let next = step.next;
-    let to = next.at as u64;
-    let answer = step.answer;
-    match answer {
+    let to = step.next.at as u64;
+    match step.answer {
         Answer::Object { start, size, kind } => numbers(
             1,
             start as u64,
@@ -71,17 +69,12 @@ fn check_reply(verdict: Verdict) -> Reply
 fn reply_to(question: u8, at: usize, log: &[u8], bundle: &[u8]) -> Reply
     ensures { result ≡ reply_to question at log.now bundle.now }
 {
-    if question == 1 {
-        let c = Cursor { at };
-        return step_reply(c.step(log));
+    match question {
+        1 => step_reply(Cursor { at }.step(log)),
+        2 => walk_reply(objects::walk(log)),
+        3 => check_reply(slips::check(log, bundle)),
+        _ => numbers(0, 0, 0, 0, 0),
     }
-    if question == 2 {
-        return walk_reply(objects::walk(log));
-    }
-    if question == 3 {
-        return check_reply(slips::check(log, bundle));
-    }
-    numbers(0, 0, 0, 0, 0)
 }
 
 // The reply to a case. Bytes that are no case get a reply of zeros.

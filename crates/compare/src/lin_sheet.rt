@@ -2,7 +2,7 @@
 ghost use Rattle.std.specs.Prelude.{◌≤◌, length};
 ghost use Rattle.compare.specs.Kept.{Kept};
 
-use crate::sheet::{put_all, put_header, put_read_answer, put8x8, put64x9, wide8, wide16, wide32};
+use crate::sheet::{Sheet, put_all, put_header, put_read};
 use lin::{Message, Tail, WakeUp};
 use objects::Cursor;
 
@@ -14,27 +14,6 @@ fn bits(exact: f64) -> u64 {
     f64::to_bits(exact)
 }
 
-fn put_rates(
-    out: &mut [u8],
-    from: usize,
-    response: u32,
-    exact: f64,
-    header_stop: u32,
-    response_stop: u32,
-) -> usize
-    requires { from ≤ length out.old }
-    ensures { Kept result out.old out.new }
-{
-    let values = [
-        2,
-        response as u64,
-        bits(exact),
-        header_stop as u64,
-        response_stop as u64,
-    ];
-    put_all(out, from, &values)
-}
-
 // A number for the way in which the message ends, 0, 1 or 2, and what it ends with.
 fn put_tail(out: &mut [u8], from: usize, t: Tail) -> usize
     requires { from ≤ length out.old }
@@ -42,82 +21,72 @@ fn put_tail(out: &mut [u8], from: usize, t: Tail) -> usize
 {
     match t {
         Tail::Nothing => put_all(out, from, &[0u64]),
-        Tail::Response(response) => put_all(out, from, &[1, response as u64]),
+        Tail::Response(response) => put_all(out, from, &[1, u64::from(response)]),
         Tail::Rates {
             response,
             exact,
             header_stop,
             response_stop,
-        } => put_rates(out, from, response, exact, header_stop, response_stop),
+        } => {
+            let values = [
+                2,
+                u64::from(response),
+                bits(exact),
+                u64::from(header_stop),
+                u64::from(response_stop),
+            ];
+            put_all(out, from, &values)
+        }
     }
 }
 
-// The fields in front of the stamps.
-fn put_front(out: &mut [u8], r: Message) -> usize
-    requires { 40 ≤ length out.old }
-    ensures { Kept result out.old out.new }
-{
-    let h = r.header;
-    let bus = [
-        r.start,
-        wide32(r.baud),
-        wide16(r.channel),
-        r.breaking,
-        r.delimiter,
-    ];
-    let ids = [wide16(r.supplier), wide16(r.message), wide8(r.nad)];
-    let frame = [wide8(r.id), wide8(r.dlc), wide8(r.model)];
-    let a = put_header(out, h);
-    let b = put_all(out, a, &bus);
-    let c = put_all(out, b, &ids);
-    put_all(out, c, &frame)
+impl Sheet for Message {
+    fn put(self, out: &mut [u8]) -> usize {
+        let front = [
+            self.start,
+            u64::from(self.baud),
+            u64::from(self.channel),
+            self.breaking,
+            self.delimiter,
+            u64::from(self.supplier),
+            u64::from(self.message),
+            u64::from(self.nad),
+            u64::from(self.id),
+            u64::from(self.dlc),
+            u64::from(self.model),
+        ];
+        let marks = [
+            u64::from(self.checksum),
+            u64::from(self.direction),
+            u64::from(self.simulated),
+            u64::from(self.triggered),
+            u64::from(self.index),
+            u64::from(self.associated),
+            u64::from(self.machine),
+            u64::from(self.state),
+        ];
+        let a = put_header(out, self.header);
+        let b = put_all(out, a, &front);
+        let c = put_all(out, b, &self.stamps);
+        let d = put_all(out, c, &self.bytes);
+        let e = put_all(out, d, &marks);
+        put_tail(out, e, self.tail)
+    }
 }
 
-// The fields between the data bytes and the tail.
-fn put_marks(out: &mut [u8], from: usize, r: Message) -> usize
-    requires { from ≤ length out.old }
-    ensures { Kept result out.old out.new }
-{
-    let kind = [
-        wide16(r.checksum),
-        wide8(r.direction),
-        wide8(r.simulated),
-        wide8(r.triggered),
-    ];
-    let machine = [
-        wide8(r.index),
-        wide8(r.associated),
-        wide8(r.machine),
-        wide8(r.state),
-    ];
-    let a = put_all(out, from, &kind);
-    put_all(out, a, &machine)
-}
-
-fn put_message(out: &mut [u8], r: Message) -> usize
-    requires { 40 ≤ length out.old }
-    ensures { Kept result out.old out.new }
-{
-    let stamps = r.stamps;
-    let bytes = r.bytes;
-    let tail = r.tail;
-    let a = put_front(out, r);
-    let b = put64x9(out, a, stamps);
-    let c = put8x8(out, b, bytes);
-    let d = put_marks(out, c, r);
-    put_tail(out, d, tail)
-}
-
-fn put_wake_up(out: &mut [u8], r: WakeUp) -> usize
-    requires { 40 ≤ length out.old }
-    ensures { Kept result out.old out.new }
-{
-    let h = r.header;
-    let bus = [r.start, wide32(r.baud), wide16(r.channel)];
-    let wake = [wide8(r.info), wide8(r.signal), wide8(r.external)];
-    let a = put_header(out, h);
-    let b = put_all(out, a, &bus);
-    put_all(out, b, &wake)
+impl Sheet for WakeUp {
+    fn put(self, out: &mut [u8]) -> usize {
+        let values = [
+            self.start,
+            u64::from(self.baud),
+            u64::from(self.channel),
+            u64::from(self.info),
+            u64::from(self.signal),
+            u64::from(self.external),
+        ];
+        let at = put_header(out, self.header);
+        put_all(out, at, &values)
+    }
 }
 
 pub fn message(out: &mut [u8], log: &[u8], c: Cursor) -> usize
@@ -125,11 +94,7 @@ pub fn message(out: &mut [u8], log: &[u8], c: Cursor) -> usize
     ensures { Kept result out.old out.new }
 {
     let read = lin_records::read_message(log, c);
-    let told = read.told;
-    let next = read.next;
-    let value = read.value;
-    let end = put_message(out, value);
-    put_read_answer(out, told, next, end, &log[..0])
+    put_read(out, read.told, read.next, read.value, &log[..0])
 }
 
 pub fn wake_up(out: &mut [u8], log: &[u8], c: Cursor) -> usize
@@ -137,9 +102,5 @@ pub fn wake_up(out: &mut [u8], log: &[u8], c: Cursor) -> usize
     ensures { Kept result out.old out.new }
 {
     let read = lin_records::read_wake_up(log, c);
-    let told = read.told;
-    let next = read.next;
-    let value = read.value;
-    let end = put_wake_up(out, value);
-    put_read_answer(out, told, next, end, &log[..0])
+    put_read(out, read.told, read.next, read.value, &log[..0])
 }

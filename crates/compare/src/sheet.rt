@@ -24,19 +24,6 @@ pub fn put_reply(out: &mut [u8], r: Reply)
     fields::put64(out, 32, r.next);
 }
 
-// Numbers of any width as numbers of 64 bits.
-pub fn wide8(v: u8) -> u64 {
-    v as u64
-}
-
-pub fn wide16(v: u16) -> u64 {
-    v as u64
-}
-
-pub fn wide32(v: u32) -> u64 {
-    v as u64
-}
-
 // Puts a number at a place; answers the place behind it.
 fn put(out: &mut [u8], at: usize, v: u64) -> usize
     requires { at ≤ length out.old }
@@ -50,64 +37,19 @@ fn put(out: &mut [u8], at: usize, v: u64) -> usize
 }
 
 // Puts numbers one behind the other.
-pub fn put_all(out: &mut [u8], from: usize, values: &[u64]) -> usize
+pub fn put_all<T: Copy + Into<u64>>(out: &mut [u8], from: usize, values: &[T]) -> usize
     requires { from ≤ length out.old }
     ensures { Kept result out.old out.new }
 {
     let mut at = from;
-    let mut i = 0;
-    while i < values.len() {
-        at = put(out, at, values[i]);
-        i += 1;
+    for v in values {
+        at = put(out, at, (*v).into());
     }
     at
-}
-
-// Puts bytes as numbers one behind the other.
-fn put_each(out: &mut [u8], from: usize, values: &[u8]) -> usize
-    requires { from ≤ length out.old }
-    ensures { Kept result out.old out.new }
-{
-    let mut at = from;
-    let mut i = 0;
-    while i < values.len() {
-        at = put(out, at, wide8(values[i]));
-        i += 1;
-    }
-    at
-}
-
-// Arrays, element by element.
-pub fn put8x8(out: &mut [u8], from: usize, v: [u8; 8]) -> usize
-    requires { from ≤ length out.old }
-    ensures { Kept result out.old out.new }
-{
-    put_each(out, from, &v)
-}
-
-pub fn put8x64(out: &mut [u8], from: usize, v: [u8; 64]) -> usize
-    requires { from ≤ length out.old }
-    ensures { Kept result out.old out.new }
-{
-    put_each(out, from, &v)
-}
-
-pub fn put8x254(out: &mut [u8], from: usize, v: [u8; 254]) -> usize
-    requires { from ≤ length out.old }
-    ensures { Kept result out.old out.new }
-{
-    put_each(out, from, &v)
-}
-
-pub fn put64x9(out: &mut [u8], from: usize, v: [u64; 9]) -> usize
-    requires { from ≤ length out.old }
-    ensures { Kept result out.old out.new }
-{
-    put_all(out, from, &v)
 }
 
 // Puts bytes as they are.
-pub fn put_run(out: &mut [u8], from: usize, bytes: &[u8]) -> usize
+fn put_run(out: &mut [u8], from: usize, bytes: &[u8]) -> usize
     requires { from ≤ length out.old }
     ensures { Kept result out.old out.new }
 {
@@ -121,25 +63,18 @@ pub fn put_run(out: &mut [u8], from: usize, bytes: &[u8]) -> usize
 // The numbers of a header: the unit; which header it is; what stands at byte 20, the client index or the time stamp
 // status; version, time stamp; and the original time stamp, 0 where the header has none.
 fn header_numbers(h: Header) -> [u64; 6] {
-    let origin = h.origin;
-    match origin {
-        Origin::First { client } => [
-            wide32(h.unit),
-            1,
-            wide16(client),
-            wide16(h.version),
-            h.stamp,
-            0,
-        ],
-        Origin::Second { status, original } => [
-            wide32(h.unit),
-            2,
-            wide8(status),
-            wide16(h.version),
-            h.stamp,
-            original,
-        ],
-    }
+    let (which, byte_20, original) = match h.origin {
+        Origin::First { client } => (1, u64::from(client), 0),
+        Origin::Second { status, original } => (2, u64::from(status), original),
+    };
+    [
+        u64::from(h.unit),
+        which,
+        byte_20,
+        u64::from(h.version),
+        h.stamp,
+        original,
+    ]
 }
 
 // Puts the numbers of a header, the first of every record.
@@ -147,8 +82,7 @@ pub fn put_header(out: &mut [u8], h: Header) -> usize
     requires { 40 ≤ length out.old }
     ensures { Kept result out.old out.new }
 {
-    let values = header_numbers(h);
-    put_all(out, FRONT, &values)
+    put_all(out, FRONT, &header_numbers(h))
 }
 
 // A reply whose fourth number is 0.
@@ -162,18 +96,27 @@ fn reply(word: u64, first: u64, second: u64, next: u64) -> Reply {
     }
 }
 
-// Puts the reply to what a read was told: 6 and where the record's numbers end, with the bytes of its frame behind it;
-// 7 for an object of another type; 2 at the log's end; 3 and the refusal. Answers where all ends.
-pub fn put_read_answer(
+// A record whose numbers make a sheet, in the order of its fields.
+pub trait Sheet {
+    // Puts them behind the reply; answers where they end.
+    fn put(self, out: &mut [u8]) -> usize
+        requires { 40 ≤ length out.old }
+        ensures { Kept result out.old out.new };
+}
+
+// Puts what a read answers: the record's numbers, and the reply: 6 and where they end, with the bytes of its frame behind
+// them; 7 for an object of another type; 2 at the log's end; 3 and the refusal. Answers where all ends.
+pub fn put_read<T: Sheet>(
     out: &mut [u8],
     told: ReadAnswer,
     next: Cursor,
-    end: usize,
+    value: T,
     frame: &[u8],
 ) -> usize
-    requires { (40 ≤ length out.old) × (end ≤ length out.old) }
+    requires { 40 ≤ length out.old }
     ensures { Kept result out.old out.new }
 {
+    let end = value.put(out);
     let to = next.at as u64;
     match told {
         ReadAnswer::Record => {

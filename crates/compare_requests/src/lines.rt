@@ -21,20 +21,21 @@ fn stepped(step: LineStep) -> [u64; 5] {
     }
 }
 
-// Writes the line that a question asks for to `out`; the reply's word and numbers, zeros where it is no such question.
-pub fn line(question: u8, number: usize, first: &[u8], second: u32, out: &mut [u8]) -> [u64; 5] {
-    match question {
-        1 => written(asc::object_line(first, out)),
-        2 => {
-            let c = Cursor { at: number };
-            stepped(asc::line_at(first, c, out))
-        }
-        4 => match second {
-            1 => written(asc::message_line(can_records::message_in(first), out)),
-            3 => written(asc::overload_line(can_records::overload_in(first), out)),
-            4 => written(asc::statistic_line(can_records::statistic_in(first), out)),
-            _ => [0; 5],
-        },
-        _ => [0; 5],
-    }
+// Writes the line that a question asks for to `out`; the reply's word and numbers, none where it is no such question.
+pub fn line(
+    question: u8,
+    number: usize,
+    first: &[u8],
+    second: u32,
+    out: &mut [u8],
+) -> Option<[u64; 5]> {
+    let reply = match (question, second) {
+        (1, _) => written(asc::object_line(first, out)),
+        (2, _) => stepped(asc::line_at(first, Cursor { at: number }, out)),
+        (4, 1) => written(asc::message_line(can_records::message_in(first), out)),
+        (4, 3) => written(asc::overload_line(can_records::overload_in(first), out)),
+        (4, 4) => written(asc::statistic_line(can_records::statistic_in(first), out)),
+        _ => return None,
+    };
+    Some(reply)
 }

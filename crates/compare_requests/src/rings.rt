@@ -18,19 +18,17 @@ fn stepped(step: RingStep) -> [u64; 5] {
     }
 }
 
-// Answers the view with its length and its bytes; whether the reply was written.
-fn tell_view<'a, P: Print>(output: &P, first: &'a [u8], second: &'a [u8], at: usize) -> bool {
+// Answers the view with its length and its bytes; none where the reply was not written.
+fn tell_view<'a, P: Print>(output: &P, first: &'a [u8], second: &'a [u8], at: usize) -> Option<()> {
     let view = ring::object(first, second, Cursor { at });
     let mut reply = [0u8; 40];
     put_all(&mut reply, 0, &[10, view.len() as u64, 0, 0, 0]);
-    if output.write_all(&reply).is_err() {
-        return false;
-    }
-    output.write_all(view).is_ok()
+    output.write_all(&reply).ok()?;
+    output.write_all(view).ok()
 }
 
-// Answers a question on the ring of a case, whose second part begins at a place, with the length of the scratch;
-// whether it is one of ours and the reply was written.
+// Answers a question on the ring of a case, whose second part begins at a place, with the length of the scratch; none
+// where it is none of ours or the reply was not written.
 pub fn tell_ring<P: Print>(
     output: &P,
     question: u8,
@@ -38,16 +36,16 @@ pub fn tell_ring<P: Print>(
     case: &[u8],
     part: usize,
     out: &mut [u8],
-) -> bool
+) -> Option<()>
     requires { (17 ≤ part) × (part ≤ length case.now) × (8209 ≡ length out.old) }
     ensures { 8209 ≡ length out.new }
 {
     if case.len() - part < 4 {
-        return false;
+        return None;
     }
     let room = fields::get32(case, part) as usize;
     if LIMIT < room {
-        return false;
+        return None;
     }
     let first = &case[17..part];
     let second = &case[part + 4..];
@@ -56,5 +54,5 @@ pub fn tell_ring<P: Print>(
     }
     let step = ring::step(first, second, Cursor { at }, &mut out[40..40 + room]);
     put_all(out, 0, &stepped(step));
-    output.write_all(&out[..40 + room]).is_ok()
+    output.write_all(&out[..40 + room]).ok()
 }

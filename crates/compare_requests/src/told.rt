@@ -20,10 +20,8 @@ fn put_bytes(out: &mut [u8], bytes: [u8; 8])
     requires { 232 ≡ length out.old }
     ensures { 232 ≡ length out.new }
 {
-    let mut i = 0;
-    while i < 8 {
-        out[112 + 8 * i] = bytes[i];
-        i += 1;
+    for (i, b) in bytes.iter().enumerate() {
+        out[112 + 8 * i] = *b;
     }
 }
 
@@ -66,13 +64,13 @@ fn put_told(out: &mut [u8], told: Told)
     put_all(out, 40, &values);
 }
 
-// Answers a text; whether the reply was written.
-pub fn tell_text<P: Print>(output: &P, text: &[u8]) -> bool {
+// Answers a text; none where the reply was not written.
+pub fn tell_text<P: Print>(output: &P, text: &[u8]) -> Option<()> {
     let r = asc::read_line(text);
     let answer = r.answer;
     let told = r.told;
     let mut sheet = [0u8; 232];
     put_answer(&mut sheet, answer);
     put_told(&mut sheet, told);
-    output.write_all(&sheet).is_ok()
+    output.write_all(&sheet).ok()
 }

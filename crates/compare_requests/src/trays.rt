@@ -4,6 +4,7 @@ ghost use Rattle.std.specs.Prelude.{◌≤◌, ◌≡◌, length};
 
 use crate::stream::{LIMIT, put_all};
 use headers::Origin;
+use std::array;
 use tray::{Common, TrayAnswer, Trayed};
 
 fn origin_of(first: &[u8]) -> Origin
@@ -37,26 +38,14 @@ fn ids_of(first: &[u8]) -> [u32; 8]
     requires { 120 ≡ length first.now }
     ensures { 8 ≡ length result }
 {
-    let mut ids = [0u32; 8];
-    let mut i = 0;
-    while i < 8 {
-        ids[i] = fields::get32(first, 24 + 4 * i);
-        i += 1;
-    }
-    ids
+    array::from_fn(|i| fields::get32(first, 24 + 4 * i))
 }
 
 fn stamps_of(first: &[u8]) -> [u64; 8]
     requires { 120 ≡ length first.now }
     ensures { 8 ≡ length result }
 {
-    let mut stamps = [0u64; 8];
-    let mut i = 0;
-    while i < 8 {
-        stamps[i] = fields::get64(first, 56 + 8 * i);
-        i += 1;
-    }
-    stamps
+    array::from_fn(|i| fields::get64(first, 56 + 8 * i))
 }
 
 fn told_of(t: Trayed) -> [u64; 5] {
@@ -69,43 +58,34 @@ fn told_of(t: Trayed) -> [u64; 5] {
     }
 }
 
-// Writes the tray of a first part and its data to `out`; the reply's word and numbers, zeros where it is no such tray.
-fn fill(first: &[u8], data: &[u8], out: &mut [u8]) -> [u64; 5] {
+// Writes the tray of a first part and its data to `out`; the reply's word and numbers, none where it is no such tray.
+fn fill(first: &[u8], data: &[u8], out: &mut [u8]) -> Option<[u64; 5]> {
     if first.len() != 120 {
-        return [0; 5];
-    }
-    let n = fields::get8(first, 3) as usize;
-    let k = fields::get8(first, 14) as usize;
-    if 8 < n {
-        return [0; 5];
-    }
-    if 8 < k {
-        return [0; 5];
+        return None;
     }
     let ids = ids_of(first);
     let stamps = stamps_of(first);
-    let t = tray::write_messages(common_of(first), &ids[..n], &stamps[..k], data, out);
-    told_of(t)
+    let ids = ids.get(..first[3] as usize)?;
+    let stamps = stamps.get(..first[14] as usize)?;
+    Some(told_of(tray::write_messages(common_of(first), ids, stamps, data, out)))
 }
 
-// Answers the tray of a case, whose second part begins at a place; whether it is one of ours and the reply was written.
+// Answers the tray of a case, whose second part begins at a place; none where it is none of ours or the reply was not
+// written.
 pub fn tell_tray<P: Print>(
     output: &P,
     room: usize,
     case: &[u8],
     part: usize,
     out: &mut [u8],
-) -> bool
+) -> Option<()>
     requires { (17 ≤ part) × (part ≤ length case.now) × (8209 ≡ length out.old) }
     ensures { 8209 ≡ length out.new }
 {
     if LIMIT < room {
-        return false;
+        return None;
     }
-    let reply = fill(&case[17..part], &case[part..], &mut out[40..40 + room]);
-    if reply[0] == 0 {
-        return false;
-    }
+    let reply = fill(&case[17..part], &case[part..], &mut out[40..40 + room])?;
     put_all(out, 0, &reply);
-    output.write_all(&out[..40 + room]).is_ok()
+    output.write_all(&out[..40 + room]).ok()
 }

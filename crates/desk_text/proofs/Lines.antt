@@ -16,8 +16,8 @@ use Rattle.slips.specs.Cut.{Cut, Slips, Fault, cut_of}
 use Rattle.slips.specs.Check as check
 use Rattle.slips.specs.Check.{check_of}
 use Rattle.slips.specs.Claims.{longest}
-use Rattle.input.specs.declared.Input.{Input}
-use Rattle.input.specs.declared.Input.TheVariants.{Bytes, Failed}
+use Rattle.std.proofs.Common.{None, Some}
+use Rattle.input.specs.Taken.{Input, Bytes, Failed}
 use Rattle.listing.specs.Text.{accepted_line, refused_line, outside_line, too_long_text, no_file, Said}
 use Rattle.listing.specs.Listing.{limit}
 use Rattle.desk_text.specs.Outside.{outside_of, Cuts}
@@ -62,8 +62,8 @@ module _ (s b : List ℕ) {x y : List ℕ} {r : ℕ} where
 module _ (first : Input) (log : List ℕ) (second : Input) (bundle : List ℕ) {x y : List ℕ} {r : ℕ} where
   without : (i : Input) → Said 0 no_file x y r → Said 0 (desk_of Failed log i bundle) x y r
   unfolding desk_of
-  without (Bytes m) v = v
-  without Failed v = v
+  without (Some m) v = v
+  without None v = v
 
   pub no_log : first ≡ Failed → Said 0 no_file x y r → Said 0 (desk_of first log second bundle) x y r
   no_log e w = rw e (without second w)

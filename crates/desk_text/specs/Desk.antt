@@ -1,10 +1,9 @@
 -- 01, "Two programs": what the desk program prints.
-use Rattle.std.specs.Prelude.{ℕ, Bool, cond, ◌&&◌, List, length, take, leb}
+use Rattle.std.specs.Prelude.{ℕ, Bool, cond, ◌&&◌, None, Some, List, length, take, leb}
 use Rattle.slips.specs.declared.pass.Verdict.{Verdict}
 use Rattle.slips.specs.declared.pass.Verdict.TheVariants.{Accepted, Refused}
 use Rattle.slips.specs.Check.{check_of}
-use Rattle.input.specs.declared.Input.{Input}
-use Rattle.input.specs.declared.Input.TheVariants.{Bytes, Failed}
+use Rattle.input.specs.Taken.{Input}
 use Rattle.listing.specs.Text.{accepted_line, refused_line, outside_line, too_long_text, no_file}
 use Rattle.listing.specs.Listing.{limit}
 use Rattle.desk_text.specs.Outside.{outside_of}
@@ -24,7 +23,7 @@ judged_of s b = cond (leb (length s) limit && leb (length b) limit) (verdict_of 
 
 -- what is printed for what came of reading log and bundle
 unfoldable pub desk_of : Input → List ℕ → Input → List ℕ → List ℕ
-desk_of (Bytes n) x (Bytes m) y = judged_of (take n x) (take m y)
-desk_of (Bytes n) x Failed y = no_file
-desk_of Failed x (Bytes m) y = no_file
-desk_of Failed x Failed y = no_file
+desk_of (Some n) x (Some m) y = judged_of (take n x) (take m y)
+desk_of (Some n) x None y = no_file
+desk_of None x (Some m) y = no_file
+desk_of None x None y = no_file

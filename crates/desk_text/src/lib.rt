@@ -8,7 +8,6 @@ ghost use Rattle.input.specs.Taken.{Within};
 ghost use Rattle.listing.specs.Text.{Said};
 ghost use Rattle.desk_text.specs.Desk.{verdict_of, judged_of, desk_of};
 
-use input::Input;
 use listing::{accepted_line, put, refused_line};
 use outside::outside;
 use slips::Verdict;
@@ -34,24 +33,30 @@ fn judged(log: &[u8], bundle: &[u8], out: &mut [u8]) -> usize
     requires { 64 ≤ length out.old }
     ensures { Said 0 (judged_of log.now bundle.now) out.old out.new result }
 {
-    if Input::LIMIT < log.len() {
+    if input::LIMIT < log.len() {
         return put(b"too long\n", out, 0);
     }
-    if Input::LIMIT < bundle.len() {
+    if input::LIMIT < bundle.len() {
         return put(b"too long\n", out, 0);
     }
     verdict(log, bundle, out)
 }
 
 // What the desk program prints for what came of reading log and bundle into two buffers.
-pub fn judge(first: Input, log: &[u8], second: Input, bundle: &[u8], out: &mut [u8]) -> usize
+pub fn judge(
+    first: Option<usize>,
+    log: &[u8],
+    second: Option<usize>,
+    bundle: &[u8],
+    out: &mut [u8],
+) -> usize
     requires { Within first log.now × Within second bundle.now × (64 ≤ length out.old) }
     ensures { Said 0 (desk_of first log.now second bundle.now) out.old out.new result }
 {
-    let Input::Bytes(n) = first else {
+    let Some(n) = first else {
         return put(b"no file\n", out, 0);
     };
-    let Input::Bytes(m) = second else {
+    let Some(m) = second else {
         return put(b"no file\n", out, 0);
     };
     judged(&log[..n], &bundle[..m], out)

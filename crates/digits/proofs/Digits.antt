@@ -28,6 +28,18 @@ power b n i j e h = subst (λ (x : ℕ). b ^ x ≤ n) e h
 first_power : (b : ℕ) → b ^ 1 ≡ b
 first_power b = pow-suc b 0 ∙ rw (pow-zero, one-mul)
 
+-- a digit in front of a text, or none: past the text's end none is read, since 0 is no digit's code
+pub scan_stops : (b k v i : ℕ) (t : List ℕ) → b ≤ digit (get_or t 0 0) → scan b k v i t ≡ record { value = v; end = i }
+unfolding scan
+scan_stops b zero v i t h = refl
+scan_stops b (suc k) v i [] h = refl
+scan_stops b (suc k) v i (c ∷ t) h = rw (le-ltb (digit c) b h)
+
+pub scan_goes : (b k v i : ℕ) (t : List ℕ) → b ≤ 16 → digit (get_or t 0 0) < b → scan b (suc k) v i t ≡ scan b k (v * b + digit (get_or t 0 0)) (i + 1) (drop 1 t)
+unfolding scan digit
+scan_goes b k v i [] m h = absurd (omega arith)
+scan_goes b k v i (c ∷ t) m h = rw (lt-ltb (digit c) b h)
+
 module _ (b : ℕ) (two : 1 < b) where
   -- the first of k + 1 digits
   pub fixed_front : (k n : ℕ) → fixed b (suc k) n ≡ glyph (n / b ^ k % b) ∷ fixed b k n
@@ -150,11 +162,6 @@ module _ (b : ℕ) (two : 1 < b) where
     fixed_back k n at s h =
         ap (λ (j : ℕ). scan b j 0 at (fixed b k n ++ s)) (sym (add-zero k)) ∙ scan_fixed k 0 0 n at s ∙ rw (zero-mul, zero-add, mod-eq_of_lt h)
 
-    stops : (m v at c : ℕ) (s : List ℕ) → ltb (digit c) b ≡ false → scan b m v at (c ∷ s) ≡ record { value = v; end = at }
-    unfolding scan
-    stops zero v at c s e = refl
-    stops (suc m) v at c s e = rw e
-
     -- the fewest digits are read back, where what follows is no digit; at most g are looked at
     pub digits_back : (f g n at c : ℕ) (s : List ℕ) → 1 ≤ f → n < b ^ f → 1 ≤ g → n < b ^ g → ltb (digit c) b ≡ false
         → scan b g 0 at (fewest b f n ++ (c ∷ s)) ≡ record { value = n; end = at + length (fewest b f n) }
@@ -165,7 +172,7 @@ module _ (b : ℕ) (two : 1 < b) where
         let m : k.count + (g - k.count) ≡ g = omega (arith, at_most g k.places o' h') in
         ap₂ (λ (j : ℕ) (t : List ℕ). scan b j 0 at (t ++ (c ∷ s))) (sym m) (sym q)
         ∙ scan_fixed k.count (g - k.count) 0 n at (c ∷ s)
-        ∙ rw (zero-mul, zero-add, mod-eq_of_lt k.places.1, l) (stops (g - k.count) n (at + k.count) c s e)
+        ∙ rw (zero-mul, zero-add, mod-eq_of_lt k.places.1, l) (scan_stops b (g - k.count) n (at + k.count) (c ∷ s) (ltb-false (digit c) b e))
 
     -- the same at a place of a text
     pub number_fixed : (k n at : ℕ) (s r : List ℕ) → drop at s ≡ fixed b k n ++ r → n < b ^ k → number b k s at ≡ record { value = n; end = at + k }
@@ -176,21 +183,6 @@ module _ (b : ℕ) (two : 1 < b) where
         → number b g s at ≡ record { value = n; end = at + length (fewest b f n) }
     unfolding number
     number_fewest f g n at c s r e o h o' h' d = rw e (digits_back f g n at c r o h o' h' d)
-
--- no more than k digits are read
-pub scan_end : (b k v at : ℕ) (s : List ℕ) → (scan b k v at s).end ≤ at + k
-unfolding scan
-scan_end b zero v at s = omega arith
-scan_end b (suc k) v at [] = omega arith
-scan_end b (suc k) v at (c ∷ s) = cases (ltb (digit c) b) (scan_end b k (v * b + digit c) (at + 1) s)
-  where
-    cases : (t : Bool) → (scan b k (v * b + digit c) (at + 1) s).end ≤ at + 1 + k → (cond t (scan b k (v * b + digit c) (at + 1) s) (record { value = v; end = at })).end ≤ at + suc k
-    cases true h = omega arith
-    cases false h = omega arith
-
-pub number_end : (b k : ℕ) (s : List ℕ) (at : ℕ) → (number b k s at).end ≤ at + k
-unfolding number
-number_end b k s at = scan_end b k 0 at (drop at s)
 
 wider : (b j k v : ℕ) → 1 < b → v < b ^ j → v < b ^ (j + k)
 wider b j k v two h = let w : b ^ j ≤ b ^ (j + k) = pow-le-pow_right {n = b} (omega arith) {i = j} {j = j + k} (omega arith) in omega arith

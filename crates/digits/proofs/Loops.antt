@@ -2,19 +2,19 @@
 use mathlib.Core.Path.{◌≡◌, refl, sym, ap, ap₂, ◌∙◌, subst}
 use mathlib.Core.List.{List, [], ◌∷◌, ◌++◌, append_assoc, append-nil}
 use Prim.Native.Nat.{ℕ, zero, suc, ◌+◌, ◌*◌, ◌-◌, ◌/◌, ◌%◌, ◌^◌, ◌≤◌, ◌<◌}
-use native.Mathlib.Nat.{pow-zero, pow-suc, add-zero, add-suc, one-mul, pow-le-pow_right, le-div_iff_mul-le, div-lt_iff_lt-mul}
+use native.Mathlib.Nat.{pow-zero, pow-suc, add-zero, add-suc, one-mul, lt_of_not-le, pow-le-pow_right, le-div_iff_mul-le, div-lt_iff_lt-mul}
 use native.Mathlib.Omega.{arith}
+use Rattle.std.proofs.Common.{add-one}
 use borrow.Author.Tests.{lt-ltb, le-ltb}
 use lib.Arith.{digits_lt}
-use lib.ListN.{length, get_or, set, drop, drop_of_length-le}
-use lib.Seq.{sets, drop-cons}
+use lib.ListN.{length, get_or, get_or-eq_default, set, drop}
+use lib.Seq.{sets, drop-drop, get_or-drop}
 use Rattle.fields.specs.Written.{Wrote}
 use Rattle.fields.proofs.Writing.{wrote_length}
 use Rattle.digits.specs.Digits.{glyph, fixed, fewest}
 use Rattle.digits.specs.Reading.{digit, scan, number}
 use Rattle.digits.specs.Text.{Said}
-use Rattle.digits.specs.declared.reading.Number.{Number}
-use Rattle.digits.proofs.Digits.{length_fixed, fewest_short, number_end}
+use Rattle.digits.proofs.Digits.{length_fixed, fewest_short, scan_stops, scan_goes}
 use Rattle.digits.proofs.Glyphs.{glyph_low}
 use Rattle.digits.proofs.Texts.{byte_before, within}
 
@@ -26,9 +26,6 @@ pub record Spelling (b k n at : ℕ) (x y : List ℕ) (i rest : ℕ) : Type 0 wh
   pub same : fixed b i rest ++ behind ≡ fixed b k n
 
 module _ (b k n at : ℕ) (x : List ℕ) where
-  pub spelling_none : Spelling b k n at x x k n
-  spelling_none = record { within = omega arith; behind = []; wrote = record { is = refl }; same = append-nil (fixed b k n) }
-
   pub spelling_more : {y : List ℕ} (i rest g : ℕ) → Spelling b k n at x y i rest → 0 < i → g ≡ glyph (rest % b)
       → Spelling b k n at x (set y (at + (i - 1)) g) (i - 1) (rest / b)
   unfolding fixed
@@ -105,12 +102,9 @@ module _ (b f n e : ℕ) (x : List ℕ) (two : 1 < b) where
               same = rw q (sym (append_assoc (fewest b l (rest / b)) (glyph (rest % b) ∷ []) s.behind) ∙ t);
             }
 
-    -- the places that are written are there
+    -- a place is left
     pub peeling_first : f ≤ e → 1 ≤ i
     peeling_first h = omega (arith, peeling_room h, s.some)
-
-    pub peeling_inside : e ≤ length x → i ≤ length y
-    peeling_inside h = omega (arith, s.ends, wrote_length s.wrote)
 
     pub peeling_last : (g : ℕ) → rest < b → g ≡ glyph rest → 1 ≤ f → f ≤ e → e ≤ length x → Said (i - 1) (fewest b f n) x (set y (i - 1) g) e × (e ≤ i - 1 + f)
     unfolding fewest
@@ -131,73 +125,60 @@ module _ (b f n e : ℕ) (x : List ℕ) (two : 1 < b) where
             })
             (fewest_short b two f n)
 
--- v is read, and the number goes on at place i with at most `left` digits
-pub record Scanning (b most : ℕ) (s : List ℕ) (at v i left : ℕ) : Type 0 where
-  pub looked : ℕ
+-- v is read after so many digits, and the number goes on at place i with at most `left` digits
+pub record Scanning (b most : ℕ) (s : List ℕ) (at v i looked : ℕ) : Type 0 where
+  pub left : ℕ
   pub all : looked + left ≡ most
+  pub place : i ≡ at + looked
   pub low : v < b ^ looked
   pub same : scan b left v i (drop i s) ≡ number b most s at
 
-module _ (b most : ℕ) (s : List ℕ) (at : ℕ) (two : 1 < b) where
-  pub scanning_none : Scanning b most s at 0 at most
+module _ (b most : ℕ) (s : List ℕ) (at : ℕ) (two : 1 < b) (sixteen : b ≤ 16) where
+  pub scanning_none : Scanning b most s at 0 at 0
   unfolding number
-  scanning_none = record { looked = 0; all = omega arith; low = rw pow-zero (omega arith); same = refl }
+  scanning_none = record { left = most; all = omega arith; place = omega arith; low = rw pow-zero (omega arith); same = refl }
 
-  module _ (v i left : ℕ) (c : Scanning b most s at v i left) where
-    -- the next digit fits
-    pub scanning_fits : (d : ℕ) → 0 < left → d < b → b ^ most ≤ 18446744073709551616 → v * b + d < 18446744073709551616
-    scanning_fits d h k m =
-        let u : v * b + d < b ^ suc c.looked = rw pow-suc (digits_lt c.low k) in
-        let w : b ^ suc c.looked ≤ b ^ most = pow-le-pow_right {n = b} (omega arith) {i = suc c.looked} {j = most} (omega (arith, c.all)) in
-        omega arith
+  module _ (v i looked : ℕ) (c : Scanning b most s at v i looked) where
+    first : get_or (drop i s) 0 0 ≡ get_or s i 0
+    first = get_or-drop i s 0 0 ∙ ap (λ (j : ℕ). get_or s j 0) (add-zero i)
 
-    -- no digit is left to read, or none stands there
-    pub scanning_full : left ≡ 0 → record { value = v; end = i } ≡ number b most s at
+    -- all digits are read, or none stands there
+    pub scanning_full : most ≤ looked → (record { value = v; end = i } ≡ number b most s at) × (i ≤ at + most)
     unfolding scan
-    scanning_full e = subst (λ (l : ℕ). scan b l v i (drop i s) ≡ number b most s at) e c.same
+    scanning_full h =
+        let z : c.left ≡ 0 = omega (arith, c.all) in
+        (subst (λ (l : ℕ). scan b l v i (drop i s) ≡ number b most s at) z c.same, omega (arith, c.all, c.place))
 
-    pub scanning_end : length s ≤ i → record { value = v; end = i } ≡ number b most s at
-    unfolding scan
-    scanning_end h = ends left (ap (λ (t : List ℕ). scan b left v i t) (sym (drop_of_length-le s h)) ∙ c.same)
-      where
-        ends : (l : ℕ) → scan b l v i [] ≡ number b most s at → record { value = v; end = i } ≡ number b most s at
-        ends zero q = q
-        ends (suc l) q = q
+    pub scanning_stop : {d : ℕ} → d ≡ digit (get_or s i 0) → b ≤ d → (record { value = v; end = i } ≡ number b most s at) × (i ≤ at + most)
+    scanning_stop e h = (sym (scan_stops b c.left v i (drop i s) (rw first (omega arith))) ∙ c.same, omega (arith, c.all, c.place))
 
-    pub scanning_stop : i < length s → b ≤ digit (get_or s i 0) → record { value = v; end = i } ≡ number b most s at
-    unfolding scan
-    scanning_stop h k = ends left (ap (λ (t : List ℕ). scan b left v i t) (sym (drop-cons s i 0 h)) ∙ c.same)
-      where
-        ends : (l : ℕ) → scan b l v i (get_or s i 0 ∷ drop (suc i) s) ≡ number b most s at → record { value = v; end = i } ≡ number b most s at
-        ends zero q = q
-        ends (suc l) q = rw (le-ltb (digit (get_or s i 0)) b k) at q
+    module _ {d : ℕ} (more : looked < most) (e : d ≡ digit (get_or s i 0)) (k : d < b) where
+      -- the next digit stands in the text, and fits
+      pub scanning_inside : i < length s
+      unfolding digit
+      scanning_inside = lt_of_not-le (λ (h : length s ≤ i). let z : d ≡ 16 = e ∙ ap digit (get_or-eq_default s 0 h) in omega arith)
 
-  pub scanning_more : (v i left d : ℕ) → Scanning b most s at v i left → 0 < left → i < length s → d ≡ digit (get_or s i 0) → d < b
-      → Scanning b most s at (v * b + d) (i + 1) (left - 1)
-  unfolding scan
-  scanning_more v i zero d c z h e k = absurd (omega arith)
-  scanning_more v i (suc left) d c z h e k =
-      let p : suc left - 1 ≡ left = omega arith in
-      let a : i + 1 ≡ suc i = omega arith in
-      let q : scan b (suc left) v i (get_or s i 0 ∷ drop (suc i) s) ≡ number b most s at = ap (λ (t : List ℕ). scan b (suc left) v i t) (sym (drop-cons s i 0 h)) ∙ c.same in
-      let r : scan b left (v * b + digit (get_or s i 0)) (i + 1) (drop (suc i) s) ≡ number b most s at = rw (lt-ltb (digit (get_or s i 0)) b (omega arith)) at q in
-      rw p
-      (record {
-        looked = suc c.looked;
-        all = omega (arith, c.all);
-        low = rw pow-suc (digits_lt c.low k);
-        same = ap₂ (λ (x : ℕ) (t : List ℕ). scan b left (v * b + x) (i + 1) t) e (ap (λ (j : ℕ). drop j s) a) ∙ r;
-      })
+      pub scanning_fits : b ^ most ≤ 18446744073709551616 → v * b + d < 18446744073709551616
+      scanning_fits m =
+          let u : v * b + d < b ^ suc looked = rw pow-suc (digits_lt c.low k) in
+          let w : b ^ suc looked ≤ b ^ most = pow-le-pow_right {n = b} (omega arith) {i = suc looked} {j = most} (omega arith) in
+          omega arith
 
--- a number that is read ends soon behind its place
-pub near : (b most : ℕ) (s : List ℕ) (at : ℕ) {n : Number} → n ≡ number b most s at → (n ≡ number b most s at) × (n.end ≤ at + most)
-near b most s at e = (e, subst (λ (x : Number). x.end ≤ at + most) (sym e) (number_end b most s at))
-
--- a number of two digits has two places
-pub peeling_second : (b f n e : ℕ) (x : List ℕ) → 1 < b → {y : List ℕ} (i rest : ℕ) → Peeling b f n e x y i rest → b ≤ rest → f ≤ e → 2 ≤ i
-peeling_second b f n e x two i rest s h r =
-    let m = peeling_more b f n e x two i rest s (glyph (rest % b)) h refl r in
-    omega (arith, peeling_first b f n e x two i rest s r, peeling_first b f n e x two (i - 1) (rest / b) m r)
+      pub scanning_more : Scanning b most s at (v * b + d) (i + 1) (looked + 1)
+      scanning_more = go c.left c.all c.same
+        where
+          go : (l : ℕ) → looked + l ≡ most → scan b l v i (drop i s) ≡ number b most s at → Scanning b most s at (v * b + d) (i + 1) (looked + 1)
+          go zero a m = absurd (omega arith)
+          go (suc l) a m =
+              let q : digit (get_or (drop i s) 0 0) ≡ d = ap digit first ∙ sym e in
+              let g : scan b l (v * b + d) (i + 1) (drop 1 (drop i s)) ≡ number b most s at = rw q at (sym (scan_goes b l v i (drop i s) sixteen (rw q k)) ∙ m) in
+              record {
+                left = l;
+                all = omega arith;
+                place = omega (arith, c.place);
+                low = rw (add-one, pow-suc) (digits_lt c.low k);
+                same = ap (scan b l (v * b + d) (i + 1)) (sym (drop-drop 1 i s)) ∙ g;
+              }
 
 -- the last two decimal digits
 pub peeling_both : (f n e : ℕ) (x : List ℕ) {y : List ℕ} (i rest g h : ℕ) → Peeling 10 f n e x y i rest → 10 ≤ rest → rest < 100 → g ≡ 48 + rest % 10 → h ≡ 48 + rest / 10

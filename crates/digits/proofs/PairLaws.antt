@@ -6,6 +6,7 @@ use native.Mathlib.Nat.{add-zero}
 use native.Mathlib.Omega.{arith}
 use lib.ListN.{length, take, drop, get_or, set, replicate, length-append}
 use lib.Seq.{take-suc, length-take-le, drop-drop, drop-append-add, split_at, set_at}
+use Rattle.std.proofs.lemmas.List.{nil_from_length}
 use Rattle.digits.specs.Digits.{fixed}
 use Rattle.digits.specs.Reading.{number}
 use Rattle.digits.specs.Text.{Said}
@@ -29,46 +30,37 @@ pub one_pair : (b : ℕ) {at e : ℕ} {x y : List ℕ} → Said at ((32 ∷ []) 
 unfolding pairs
 one_pair b {at} {e} {x} {y} s = subst (λ (t : List ℕ). Said at (32 ∷ t) x y e) (sym (append-nil (fixed 16 2 b))) s
 
--- the pairs of the first k bytes but i stand in the buffer
-pub record Pairing (bytes : List ℕ) (k end : ℕ) (x y : List ℕ) (here i : ℕ) : Type 0 where
-  pub within : i ≤ k
-  pub rest : List ℕ
-  pub all : take i bytes ++ rest ≡ take k bytes
-  pub put : Said here (pairs rest) x y end
+-- the pairs of all the bytes but those that are left stand in the buffer
+pub record Pairing (bytes : List ℕ) (end : ℕ) (x y : List ℕ) (here : ℕ) (left : List ℕ) : Type 0 where
+  pub done : List ℕ
+  pub all : left ++ done ≡ bytes
+  pub put : Said here (pairs done) x y end
 
-module _ (bytes : List ℕ) (k end : ℕ) (x : List ℕ) (kl : k ≤ length bytes) (fits : 3 * k ≤ end) (inside : end ≤ length x) where
-  pub pairing_none : Pairing bytes k end x x end k
+module _ (bytes : List ℕ) (end : ℕ) (x : List ℕ) (fits : 3 * length bytes ≤ end) (inside : end ≤ length x) where
+  pub pairing_none : Pairing bytes end x x end bytes
   unfolding pairs
-  pairing_none =
-      record {
-        within = omega arith;
-        rest = [];
-        all = append-nil (take k bytes);
-        put = record { wrote = record { is = refl }; ends = sym (add-zero end); inside = inside };
-      }
+  pairing_none = record { done = []; all = append-nil bytes; put = record { wrote = record { is = refl }; ends = sym (add-zero end); inside = inside } }
 
-  module _ {y : List ℕ} {here i : ℕ} (p : Pairing bytes k end x y here i) where
-    -- three places for each byte that is left
-    pub pairing_room : (3 * i ≤ here) × (here ≤ length y)
-    pairing_room =
-        let l : i + length p.rest ≡ k = ap (λ (j : ℕ). j + length p.rest) (sym (length-take-le i bytes (omega (arith, p.within)))) ∙ sym (length-append (take i bytes) p.rest) ∙ ap length p.all ∙ length-take-le k bytes kl in
-        (omega (arith, p.put.ends, length_pairs p.rest), omega (arith, p.put.ends, p.put.inside))
+  module _ {y : List ℕ} {here : ℕ} {left : List ℕ} (p : Pairing bytes end x y here left) where
+    -- three places for the next byte
+    pub pairing_room : (b : ℕ) (more : List ℕ) → left ≡ more ++ (b ∷ []) → (3 ≤ here) × (here ≤ length y)
+    pairing_room b more q =
+        let l : length left + length p.done ≡ length bytes = sym (length-append left p.done) ∙ ap length p.all in
+        let m : length left ≡ length more + 1 = ap length q ∙ length-append more (b ∷ []) in
+        (omega (arith, p.put.ends, length_pairs p.done), omega (arith, p.put.ends, p.put.inside))
 
-    pub pairing_more : 0 < i → {z : List ℕ} {e : ℕ} → Said e (pairs (get_or bytes (i - 1) 0 ∷ [])) y z here → Pairing bytes k end x z e (i - 1)
-    pairing_more h {z} {e} s =
-        let j : suc (i - 1) ≡ i = omega arith in
-        let t : take (i - 1) bytes ++ (get_or bytes (i - 1) 0 ∷ []) ≡ take i bytes = sym (take-suc bytes (i - 1) 0 (omega (arith, p.within))) ∙ ap (λ (v : ℕ). take v bytes) j in
+    pub pairing_more : (b : ℕ) {more z : List ℕ} {e : ℕ} → left ≡ more ++ (b ∷ []) → Said e (pairs (b ∷ [])) y z here → Pairing bytes end x z e more
+    pairing_more b {more} {z} {e} q s =
         record {
-          within = omega (arith, p.within);
-          rest = get_or bytes (i - 1) 0 ∷ p.rest;
-          all = sym (append_assoc (take (i - 1) bytes) (get_or bytes (i - 1) 0 ∷ []) p.rest) ∙ ap (λ (v : List ℕ). v ++ p.rest) t ∙ p.all;
-          put = subst (λ (v : List ℕ). Said e v x z end) (sym (pairs_append (get_or bytes (i - 1) 0 ∷ []) p.rest)) (before p.put s);
+          done = b ∷ p.done;
+          all = sym (append_assoc more (b ∷ []) p.done) ∙ ap (λ (v : List ℕ). v ++ p.done) (sym q) ∙ p.all;
+          put = subst (λ (v : List ℕ). Said e v x z end) (sym (pairs_append (b ∷ []) p.done)) (before p.put s);
         }
 
-    pub pairing_done : i ≡ 0 → Said here (pairs (take k bytes)) x y end × (end ≤ here + 3 * k)
+    pub pairing_done : length left ≡ 0 → Said here (pairs bytes) x y end × (end ≤ here + 3 * length bytes)
     pairing_done h =
-        let r : p.rest ≡ take k bytes = ap (λ (v : ℕ). take v bytes ++ p.rest) (sym h) ∙ p.all in
-        within (3 * k) (subst (λ (v : List ℕ). Said here (pairs v) x y end) r p.put) (omega (arith, length_pairs (take k bytes), length-take-le k bytes kl))
+        let r : p.done ≡ bytes = ap (λ (v : List ℕ). v ++ p.done) (sym (nil_from_length left h)) ∙ p.all in
+        within (3 * length bytes) (subst (λ (v : List ℕ). Said here (pairs v) x y end) r p.put) (omega (arith, length_pairs bytes))
 
 pub length_bytes : (k : ℕ) (s : List ℕ) (at : ℕ) → length (bytes_in k s at) ≡ k
 unfolding bytes_in

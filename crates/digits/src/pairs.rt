@@ -1,6 +1,6 @@
 // Bytes as pairs of hex digits, each behind a blank: written before a place of a buffer, and read at a place of
 // a text.
-ghost use Rattle.std.specs.Prelude.{◌+◌, ◌*◌, ◌≤◌, ◌≡◌, [], ◌∷◌, length, take};
+ghost use Rattle.std.specs.Prelude.{◌+◌, ◌*◌, ◌≤◌, ◌≡◌, [], ◌∷◌, length};
 ghost use Rattle.digits.specs.Text.{Said};
 ghost use Rattle.digits.specs.Pairs.{pairs, filled};
 
@@ -16,17 +16,14 @@ fn put_pair(b: u8, out: &mut [u8], end: usize) -> usize
     put(b" ", out, here)
 }
 
-// The first k bytes.
-pub fn put_pairs(bytes: &[u8], k: usize, out: &mut [u8], end: usize) -> usize
-    requires { (k ≤ length bytes.now) × (3 * k ≤ end) × (end ≤ length out.old) }
-    ensures { Said result (pairs (take k bytes.now)) out.old out.new end × (end ≤ result + 3 * k) }
+// The pairs of all the bytes.
+pub fn put_pairs(bytes: &[u8], out: &mut [u8], end: usize) -> usize
+    requires { (3 * length bytes.now ≤ end) × (end ≤ length out.old) }
+    ensures { Said result (pairs bytes.now) out.old out.new end × (end ≤ result + 3 * length bytes.now) }
 {
     let mut here = end;
-    let mut i = k;
-    while i > 0 {
-        i -= 1;
-        let b = bytes[i];
-        here = put_pair(b, out, here);
+    for b in bytes.iter().rev() {
+        here = put_pair(*b, out, here);
     }
     here
 }
@@ -37,11 +34,8 @@ pub fn get_pairs(k: usize, s: &[u8], at: usize) -> [u8; 8]
     ensures { result ≡ filled k s.now at }
 {
     let mut out = [0u8; 8];
-    let mut i = 0;
-    while i < k {
-        let n = read_number(s, at + 3 * i + 1, 16, 2);
-        out[i] = n.value as u8;
-        i += 1;
+    for i in 0..k {
+        out[i] = read_number(s, at + 3 * i + 1, 16, 2).value as u8;
     }
     out
 }

@@ -9,23 +9,16 @@ pub struct Number {
     pub end: usize,
 }
 
-// The digit that a code stands for; 16 where it is no digit.
+// The digit that a code stands for; 16 where it is no digit, which is one over no base.
+#[tactic(auto, using(std::proofs::lemmas::Bool::Decides::nat_tests), unfolding(crate::specs::Reading::digit))]
 fn digit(c: u8) -> u64
     ensures { result ≡ Reading·digit c }
 {
-    if c < 48 {
-        return 16;
+    match c {
+        b'0'..=b'9' => u64::from(c - b'0'),
+        b'A'..=b'F' => u64::from(c - b'A') + 10,
+        _ => 16,
     }
-    if c < 58 {
-        return c as u64 - 48;
-    }
-    if c < 65 {
-        return 16;
-    }
-    if c < 71 {
-        return c as u64 - 55;
-    }
-    16
 }
 
 // The number of at most `most` digits at a place: 0 where none stands there.
@@ -33,30 +26,22 @@ pub fn read_number(s: &[u8], at: usize, base: u64, most: usize) -> Number
     requires { (1 < base) × (base ≤ 16) × (base ^ most ≤ 18446744073709551616) }
     ensures { (result ≡ number base most s.now at) × (result.end ≤ at + most) }
 {
-    let mut v: u64 = 0;
-    let mut i = at;
-    let mut left = most;
-    while left > 0 {
-        if s.len() <= i {
-            return Number { value: v, end: i };
-        }
-        let d = digit(s[i]);
+    let mut value = 0;
+    let mut end = at;
+    for _ in 0..most {
+        let d = digit(byte(s, end));
         if base <= d {
-            return Number { value: v, end: i };
+            break;
         }
-        v = v * base + d;
-        i += 1;
-        left -= 1;
+        value = value * base + d;
+        end += 1;
     }
-    Number { value: v, end: i }
+    Number { value, end }
 }
 
 // The byte at a place; 0 past the text's end.
 pub fn byte(s: &[u8], at: usize) -> u8
     ensures { result ≡ get_or s.now at 0 }
 {
-    if s.len() <= at {
-        return 0;
-    }
-    s[at]
+    s.get(at).copied().unwrap_or(0)
 }

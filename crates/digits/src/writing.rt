@@ -5,11 +5,16 @@ ghost use Rattle.digits.specs.Digits.{fixed};
 ghost use Rattle.digits.specs.Digits.{glyph as Digits·glyph, decimal as Digits·decimal, hex as Digits·hex};
 ghost use Rattle.digits.specs.Text.{Said, labelled as Text·labelled};
 
+#[tactic(auto, unfolding(crate::specs::Digits::glyph))]
 fn glyph(d: u64) -> u8
     requires { d < 16 }
     ensures { result ≡ Digits·glyph d }
 {
-    if d < 10 { 48 + d as u8 } else { 55 + d as u8 }
+    if d < 10 {
+        b'0' + d as u8
+    } else {
+        b'A' - 10 + d as u8
+    }
 }
 
 // The last k digits of n.
@@ -18,10 +23,8 @@ pub fn spell(n: u64, base: u64, k: usize, out: &mut [u8], end: usize) -> usize
     ensures { Said result (fixed base k n) out.old out.new end × (end ≤ result + k) }
 {
     let at = end - k;
-    let mut i = k;
     let mut rest = n;
-    while i > 0 {
-        i -= 1;
+    for i in (0..k).rev() {
         out[at + i] = glyph(rest % base);
         rest /= base;
     }
@@ -38,17 +41,17 @@ pub fn decimal(n: u64, out: &mut [u8], end: usize) -> usize
     while 100 <= rest {
         i -= 2;
         let two = rest % 100;
-        out[i + 1] = 48 + (two % 10) as u8;
-        out[i] = 48 + (two / 10) as u8;
+        out[i + 1] = b'0' + (two % 10) as u8;
+        out[i] = b'0' + (two / 10) as u8;
         rest /= 100;
     }
     i -= 1;
-    out[i] = 48 + (rest % 10) as u8;
+    out[i] = b'0' + (rest % 10) as u8;
     if rest < 10 {
         return i;
     }
     i -= 1;
-    out[i] = 48 + (rest / 10) as u8;
+    out[i] = b'0' + (rest / 10) as u8;
     i
 }
 

@@ -1,7 +1,7 @@
 -- What the loop of the list knows: the list from the cursor on, with n objects listed, is the whole list. Assumes
 -- nothing.
 use Prim.Native.Nat.{ℕ, zero, suc, ◌+◌, ◌*◌, ◌/◌, ◌<◌, ◌≤◌}
-use mathlib.Core.Path.{◌≡◌, refl, ap, ◌∙◌}
+use mathlib.Core.Path.{◌≡◌, refl, ◌∙◌}
 use mathlib.Core.List.{List, [], ◌∷◌}
 use native.Mathlib.Nat.{zero-add}
 use native.Mathlib.Omega.{arith}
@@ -10,9 +10,7 @@ use lib.Seq.{sets, length-sets}
 use Rattle.objects.specs.declared.Answer.TheVariants.{Object, Done, Refused}
 use Rattle.objects.specs.Next.{next_at}
 use Rattle.objects.specs.Stepping.{Met, met_from}
-use Rattle.exported.specs.Lists.{Listing, listed, number_for, place_for, numbers, list_of, list_reply}
-use Rattle.exported.specs.Replies.{reply, lent, Filled}
-use Rattle.exported.proofs.Lending.{unfilled, filled}
+use Rattle.exported.specs.Lists.{Listing, listed, number_for, place_for, numbers, list_of}
 
 -- three stores
 pub entered : (xs : List ℕ) (i a b c : ℕ) → set (set (set xs i a) (i + 1) b) (i + 2) c ≡ sets xs i (a ∷ b ∷ c ∷ [])
@@ -89,12 +87,3 @@ module _ (s : List ℕ) (from : ℕ) (xs ys : List ℕ) (at n : ℕ) where
       -- an entry has room
       pub has_room : 3 * n + 3 ≤ length ys
       has_room = omega (arith, w.long)
-
--- the whole call, once the list is made
-module _ (s : List ℕ) (at : ℕ) (xs us : List ℕ) where
-  pub unlisted : length us < 3 → Filled (list_reply (list_of s at xs)) (list_of s at xs).entries 10 xs xs us us
-  unlisted h = unfilled h
-
-  pub all_listed : {number count on place r : ℕ} {ys vs : List ℕ} → 3 ≤ length us → listed number count on place ys ≡ list_of s at xs → reply r vs ≡ lent (reply number (count ∷ on ∷ place ∷ [])) us
-      → Filled (list_reply (list_of s at xs)) (list_of s at xs).entries r xs ys us vs
-  all_listed h e told = filled h (ap (λ (l : Listing). l.entries) e) (told ∙ ap (λ (l : Listing). lent (list_reply l) us) e)

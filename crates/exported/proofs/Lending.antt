@@ -1,11 +1,12 @@
 -- The two ways of a lent slice: too short, or with the values at its front; and of a slice that is filled beside it.
 -- Assumes nothing.
 use Prim.Native.Nat.{ℕ, ◌<◌, ◌≤◌}
-use mathlib.Core.Path.{◌≡◌, sym, ap, ◌∙◌}
-use mathlib.Core.List.{List}
-use lib.ListN.{length}
+use mathlib.Core.Path.{◌≡◌, refl, sym, ap, ◌∙◌}
+use mathlib.Core.List.{List, ◌++◌}
+use lib.ListN.{length, drop}
 use lib.Seq.{sets}
 use borrow.Author.Tests.{le-leb, lt-leb}
+use Rattle.fields.proofs.Writing.{front}
 use Rattle.exported.specs.Replies.{Reply, reply, lent, Filled}
 
 pub too_short : (t : Reply) (xs : List ℕ) → length xs < length t.values → reply 10 xs ≡ lent t xs
@@ -15,6 +16,12 @@ too_short t xs h = rw (lt-leb _ _ h)
 pub room : (t : Reply) (xs : List ℕ) → length t.values ≤ length xs → reply t.number (sets xs 0 t.values) ≡ lent t xs
 unfolding lent
 room t xs h = rw (le-leb _ _ h)
+
+-- n values copied to the front
+pub told : (number n : ℕ) (vs xs q : List ℕ) → length vs ≡ n → n ≤ length xs → q ≡ vs → reply number (q ++ drop n xs) ≡ lent (reply number vs) xs
+told number n vs xs q l h e =
+    let stored : sets xs 0 vs ≡ vs ++ drop n xs = front n (record { is = refl }) l h in
+    ap (reply number) (rw (e, stored)) ∙ room (reply number vs) xs (rw l h)
 
 module _ {t : Reply} {z x us : List ℕ} where
   pub unfilled : length us < length t.values → Filled t z 10 x x us us

@@ -37,7 +37,7 @@ module _ (s : List ℕ) (at kind : ℕ) (x us : List ℕ) {l : Looked} {o : List
     copied n w told = rw (← object_is, le-leb (length o) (length x) h, ← e) (filled n (front (length o) w refl h) told)
 
 -- whatever a write answers, one value is told
-one : (w : Written) → length (told_of (written_reply w)).values ≡ 1
+pub one : (w : Written) → length (told_of (written_reply w)).values ≡ 1
 one (written.Used n) = refl
 one (written.Refused k p) = refl
 

@@ -8,7 +8,7 @@ mod record;
 mod rings;
 mod trays;
 
-ghost use Rattle.std.specs.Prelude.{◌≡◌, [], ◌∷◌};
+ghost use Rattle.std.specs.Prelude.{◌≡◌};
 ghost use Rattle.objects.specs.Next.{next_at};
 ghost use Rattle.objects.specs.Walk.{walk_of};
 ghost use Rattle.objects.specs.Replies.{walk_reply};
@@ -30,53 +30,14 @@ const ROOM: u32 = 10;
 // The position is exactly the log's end.
 const DONE: u32 = 100;
 
-// Answers this number, and one value into the lent slice.
-fn tell(out: &mut [u64], number: u32, value: usize) -> u32
-    ensures { reply result out.new ≡ lent (reply number (value ∷ [])) out.old }
+// Answers this number, and these values into the lent slice.
+fn tell<const N: usize>(out: &mut [u64], number: u32, values: [u64; N]) -> u32
+    ensures { reply result out.new ≡ lent (reply number values.entry) out.old }
 {
-    if out.len() < 1 {
+    if out.len() < N {
         return ROOM;
     }
-    out[0] = value as u64;
-    number
-}
-
-// Answers this number, and two values into the lent slice.
-fn tell_two(out: &mut [u64], number: u32, a: usize, b: usize) -> u32
-    ensures { reply result out.new ≡ lent (reply number (a ∷ b ∷ [])) out.old }
-{
-    if out.len() < 2 {
-        return ROOM;
-    }
-    out[0] = a as u64;
-    out[1] = b as u64;
-    number
-}
-
-// Answers this number, and two values and a place into the lent slice.
-fn tell_three(out: &mut [u64], number: u32, a: usize, b: usize, place: usize) -> u32
-    ensures { reply result out.new ≡ lent (reply number (a ∷ b ∷ place ∷ [])) out.old }
-{
-    if out.len() < 3 {
-        return ROOM;
-    }
-    out[0] = a as u64;
-    out[1] = b as u64;
-    out[2] = place as u64;
-    number
-}
-
-// Answers this number, and four values into the lent slice.
-fn tell_four(out: &mut [u64], number: u32, a: usize, b: usize, c: u32, d: usize) -> u32
-    ensures { reply result out.new ≡ lent (reply number (a ∷ b ∷ c ∷ d ∷ [])) out.old }
-{
-    if out.len() < 4 {
-        return ROOM;
-    }
-    out[0] = a as u64;
-    out[1] = b as u64;
-    out[2] = c as u64;
-    out[3] = d as u64;
+    out[..N].copy_from_slice(&values);
     number
 }
 
@@ -86,8 +47,8 @@ pub extern "C" fn mshelovat_walk(log: &[u8], out: &mut [u64]) -> u32
     ensures { reply result out.new ≡ lent (told_of (walk_reply (walk_of log.now))) out.old }
 {
     match objects::walk(log) {
-        Walked::Count(n) => tell(out, 0, n),
-        Walked::Refused { number, place } => tell(out, number, place),
+        Walked::Count(n) => tell(out, 0, [n as u64]),
+        Walked::Refused { number, place } => tell(out, number, [place as u64]),
     }
 }
 
@@ -97,8 +58,8 @@ pub extern "C" fn mshelovat_check(log: &[u8], bundle: &[u8], out: &mut [u64]) ->
     ensures { reply result out.new ≡ lent (told_of (check_reply (check_of log.now bundle.now))) out.old }
 {
     match slips::check(log, bundle) {
-        Verdict::Accepted(n) => tell(out, 0, n),
-        Verdict::Refused { number, place } => tell(out, number, place),
+        Verdict::Accepted(n) => tell(out, 0, [n as u64]),
+        Verdict::Refused { number, place } => tell(out, number, [place as u64]),
     }
 }
 
@@ -108,14 +69,13 @@ pub extern "C" fn mshelovat_check(log: &[u8], bundle: &[u8], out: &mut [u64]) ->
 pub extern "C" fn mshelovat_step(log: &[u8], at: usize, out: &mut [u64]) -> u32
     ensures { reply result out.new ≡ lent (step_reply (next_at log.now at)) out.old }
 {
-    let c = Cursor { at };
-    let step = c.step(log);
-    let answer = step.answer;
-    let next = step.next;
-    let on = next.at;
-    match answer {
-        Answer::Object { start, size, kind } => tell_four(out, 0, start, size, kind, on),
-        Answer::Done => tell_four(out, DONE, on, 0, 0, on),
-        Answer::Refused { number, place } => tell_four(out, number, place, 0, 0, on),
+    let step = Cursor { at }.step(log);
+    let on = step.next.at as u64;
+    match step.answer {
+        Answer::Object { start, size, kind } => {
+            tell(out, 0, [start as u64, size as u64, kind as u64, on])
+        }
+        Answer::Done => tell(out, DONE, [on, 0, 0, on]),
+        Answer::Refused { number, place } => tell(out, number, [place as u64, 0, 0, on]),
     }
 }

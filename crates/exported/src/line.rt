@@ -1,16 +1,14 @@
 // ASC lines: of an object given as its bytes, of the object at a position of a log, and a text read as one line.
-ghost use Rattle.std.specs.Prelude.{◌+◌, ◌≤◌, ◌≡◌, ◌∷◌, length};
-ghost use Rattle.fields.specs.Written.{Wrote};
+ghost use Rattle.std.specs.Prelude.{◌≡◌};
 ghost use Rattle.asc_lines.specs.Reading.{line_read};
 ghost use Rattle.asc.specs.Objects.{line_step, line_into};
-ghost use Rattle.asc.specs.Replies.{head_numbers, frame_numbers, count_numbers, told_numbers, read_number};
-ghost use Rattle.asc.specs.Replies.{bit as Replies·bit};
+ghost use Rattle.asc.specs.Replies.{told_numbers, read_number};
 ghost use Rattle.exported.specs.Replies.{reply, lent, Filled};
 ghost use Rattle.exported.specs.Lines.{object_reply, object_into, place_reply, reading_reply};
 
-use crate::{DONE, ROOM, tell, tell_two};
+use crate::{DONE, ROOM, tell};
 use asc::LineAt;
-use asc_lines::{Counts, Frame, Head, LineAnswer, Told};
+use asc_lines::{LineAnswer, Told};
 use objects::Cursor;
 use outcomes::Written;
 
@@ -25,8 +23,8 @@ pub extern "C" fn mshelovat_line(object: &[u8], bytes: &mut [u8], out: &mut [u64
         return ROOM;
     }
     match asc::object_line(object, bytes) {
-        Written::Used(n) => tell(out, 0, n),
-        Written::Refused { number, place } => tell(out, number, place),
+        Written::Used(n) => tell(out, 0, [n as u64]),
+        Written::Refused { number, place } => tell(out, number, [place as u64]),
     }
 }
 
@@ -42,85 +40,46 @@ pub extern "C" fn mshelovat_line_at(log: &[u8], at: usize, bytes: &mut [u8], out
         return ROOM;
     }
     let step = asc::line_at(log, Cursor { at }, bytes);
-    let next = step.next;
-    let on = next.at;
-    let answer = step.answer;
-    match answer {
-        LineAt::Line(n) => tell_two(out, 0, n, on),
-        LineAt::Done => tell_two(out, DONE, 0, on),
-        LineAt::Refused { number, place } => tell_two(out, number, place, on),
+    let on = step.next.at as u64;
+    match step.answer {
+        LineAt::Line(n) => tell(out, 0, [n as u64, on]),
+        LineAt::Done => tell(out, DONE, [0, on]),
+        LineAt::Refused { number, place } => tell(out, number, [place as u64, on]),
     }
 }
 
-fn bit(b: bool) -> u64
-    ensures { result ≡ Replies·bit b }
+// All that is told, number by number.
+fn numbers(t: Told) -> [u64; 24]
+    ensures { result ≡ told_numbers t }
 {
-    if b {
-        return 1;
-    }
-    0
-}
-
-// The type, the time and the channel.
-fn put_head(out: &mut [u64], kind: u32, h: Head)
-    requires { 24 ≤ length out.old }
-    ensures { Wrote 0 (kind ∷ head_numbers h) out.old out.new }
-{
-    out[0] = kind as u64;
-    out[1] = h.seconds;
-    out[2] = h.nanos as u64;
-    out[3] = h.channel as u64;
-}
-
-// The message's numbers but its bytes.
-fn put_frame(out: &mut [u64], f: Frame)
-    requires { 24 ≤ length out.old }
-    ensures { Wrote 4 (frame_numbers f) out.old out.new }
-{
-    out[4] = f.id as u64;
-    out[5] = bit(f.extended);
-    out[6] = bit(f.sent);
-    out[7] = bit(f.remote);
-    out[8] = f.dlc as u64;
-}
-
-// Its eight bytes.
-fn put_bytes(out: &mut [u64], bytes: [u8; 8])
-    requires { 24 ≤ length out.old }
-    ensures { Wrote 9 bytes out.old out.new × (length bytes ≡ 8) }
-{
-    let mut i = 0;
-    while i < 8 {
-        out[9 + i] = bytes[i] as u64;
-        i += 1;
-    }
-}
-
-// The statistic's numbers.
-fn put_counts(out: &mut [u64], c: Counts)
-    requires { 24 ≤ length out.old }
-    ensures { Wrote 17 (count_numbers c) out.old out.new }
-{
-    out[17] = c.load as u64;
-    out[18] = c.standard_data as u64;
-    out[19] = c.extended_data as u64;
-    out[20] = c.standard_remote as u64;
-    out[21] = c.extended_remote as u64;
-    out[22] = c.errors as u64;
-    out[23] = c.overloads as u64;
-}
-
-// All that is told.
-fn put_told(out: &mut [u64], t: Told)
-    requires { 24 ≤ length out.old }
-    ensures { Wrote 0 (told_numbers t) out.old out.new }
-{
-    let frame = t.frame;
-    let bytes = frame.bytes;
-    put_head(out, t.kind, t.head);
-    put_frame(out, frame);
-    put_bytes(out, bytes);
-    put_counts(out, t.counts);
+    let f = t.frame;
+    let c = t.counts;
+    [
+        t.kind as u64,
+        t.head.seconds,
+        t.head.nanos as u64,
+        t.head.channel as u64,
+        f.id as u64,
+        f.extended as u64,
+        f.sent as u64,
+        f.remote as u64,
+        f.dlc as u64,
+        f.bytes[0] as u64,
+        f.bytes[1] as u64,
+        f.bytes[2] as u64,
+        f.bytes[3] as u64,
+        f.bytes[4] as u64,
+        f.bytes[5] as u64,
+        f.bytes[6] as u64,
+        f.bytes[7] as u64,
+        c.load as u64,
+        c.standard_data as u64,
+        c.extended_data as u64,
+        c.standard_remote as u64,
+        c.extended_remote as u64,
+        c.errors as u64,
+        c.overloads as u64,
+    ]
 }
 
 fn read_number(answer: LineAnswer) -> u32
@@ -137,12 +96,6 @@ fn read_number(answer: LineAnswer) -> u32
 pub extern "C" fn mshelovat_read_line(text: &[u8], out: &mut [u64]) -> u32
     ensures { reply result out.new ≡ lent (reading_reply (line_read text.now)) out.old }
 {
-    if out.len() < 24 {
-        return ROOM;
-    }
     let r = asc::read_line(text);
-    let told = r.told;
-    let answer = r.answer;
-    put_told(out, told);
-    read_number(answer)
+    tell(out, read_number(r.answer), numbers(r.told))
 }

@@ -4,7 +4,7 @@ ghost use Rattle.std.proofs.lemmas.List.Edits.{sets};
 ghost use Rattle.exported.specs.Replies.{Filled};
 ghost use Rattle.exported.specs.Lists.{listed, list_of, list_reply};
 
-use crate::{DONE, ROOM, tell_three};
+use crate::{DONE, ROOM, tell};
 use objects::{Answer, Cursor};
 
 // The number to be told, how many objects were listed, the position where the next call goes on, and the place of a
@@ -17,26 +17,12 @@ struct Listed {
     place: usize,
 }
 
-// A list that ends so.
-fn ended(number: u32, count: usize, at: usize, place: usize) -> Listed
-    ensures { result ≡ record { number = number; count = count; at = at; place = place } }
-{
-    Listed {
-        number,
-        count,
-        at,
-        place,
-    }
-}
-
 // Lists one object at a place of the slice.
 fn enter(entries: &mut [u64], i: usize, start: usize, size: usize, kind: u32)
     requires { i + 3 ≤ length entries.old }
     ensures { entries.new ≡ sets entries.old i (start ∷ size ∷ kind ∷ []) }
 {
-    entries[i] = start as u64;
-    entries[i + 1] = size as u64;
-    entries[i + 2] = kind as u64;
+    entries[i..i + 3].copy_from_slice(&[start as u64, size as u64, kind as u64]);
 }
 
 // Lists the objects from the cursor on, until there is no room, the log ends, or an object is refused.
@@ -45,26 +31,35 @@ fn list(log: &[u8], at: usize, entries: &mut [u64]) -> Listed
 {
     let room = entries.len() / 3;
     let mut c = Cursor { at };
-    let mut n: usize = 0;
-    while n < room {
+    for count in 0..room {
         let step = c.step(log);
-        let answer = step.answer;
-        let Answer::Object { start, size, kind } = answer else {
-            match answer {
-                Answer::Refused { number, place } => {
-                    return ended(number, n, c.at, place);
-                }
-                _ => {
-                    return ended(DONE, n, c.at, 0);
-                }
+        match step.answer {
+            Answer::Object { start, size, kind } => enter(entries, 3 * count, start, size, kind),
+            Answer::Done => {
+                return Listed {
+                    number: DONE,
+                    count,
+                    at: c.at,
+                    place: 0,
+                };
             }
-        };
-        enter(entries, 3 * n, start, size, kind);
-        n += 1;
-        let next = step.next;
-        c = next;
+            Answer::Refused { number, place } => {
+                return Listed {
+                    number,
+                    count,
+                    at: c.at,
+                    place,
+                };
+            }
+        }
+        c = step.next;
     }
-    ended(0, n, c.at, 0)
+    Listed {
+        number: 0,
+        count: room,
+        at: c.at,
+        place: 0,
+    }
 }
 
 // Lists the objects from a position on, three numbers each: start, size, type. 0 where there is no room for another
@@ -79,5 +74,5 @@ pub extern "C" fn mshelovat_list(log: &[u8], at: usize, entries: &mut [u64], out
         return ROOM;
     }
     let l = list(log, at, entries);
-    tell_three(out, l.number, l.count, l.at, l.place)
+    tell(out, l.number, [l.count as u64, l.at as u64, l.place as u64])
 }

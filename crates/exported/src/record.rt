@@ -3,7 +3,7 @@ ghost use Rattle.std.specs.Prelude.{◌≡◌};
 ghost use Rattle.exported.specs.Replies.{reply, lent, Filled};
 ghost use Rattle.exported.specs.Records.{look_reply, read_reply, read_into, write_reply, write_into};
 
-use crate::{DONE, ROOM, tell, tell_two};
+use crate::{DONE, ROOM, tell};
 use objects::Cursor;
 use outcomes::{Looked, ReadAnswer, Written};
 
@@ -15,14 +15,13 @@ const OTHER: u32 = 101;
 fn tell_look(out: &mut [u64], l: Looked) -> u32
     ensures { reply result out.new ≡ lent (look_reply l) out.old }
 {
-    let next = l.next;
-    let on = next.at;
-    let told = l.told;
-    match told {
-        ReadAnswer::Record => tell_two(out, 0, l.size, on),
-        ReadAnswer::Other => tell_two(out, OTHER, l.size, on),
-        ReadAnswer::Done => tell_two(out, DONE, l.size, on),
-        ReadAnswer::Refused { number, place } => tell_two(out, number, place, on),
+    let size = l.size as u64;
+    let on = l.next.at as u64;
+    match l.told {
+        ReadAnswer::Record => tell(out, 0, [size, on]),
+        ReadAnswer::Other => tell(out, OTHER, [size, on]),
+        ReadAnswer::Done => tell(out, DONE, [size, on]),
+        ReadAnswer::Refused { number, place } => tell(out, number, [place as u64, on]),
     }
 }
 
@@ -63,7 +62,7 @@ pub extern "C" fn mshelovat_write(object: &[u8], bytes: &mut [u8], out: &mut [u6
         return ROOM;
     }
     match records::write_object(object, bytes) {
-        Written::Used(n) => tell(out, 0, n),
-        Written::Refused { number, place } => tell(out, number, place),
+        Written::Used(n) => tell(out, 0, [n as u64]),
+        Written::Refused { number, place } => tell(out, number, [place as u64]),
     }
 }

@@ -1,55 +1,38 @@
 // The object at a position of a log in two segments.
-ghost use Rattle.std.specs.Prelude.{◌≡◌, [], ◌∷◌, length};
+ghost use Rattle.std.specs.Prelude.{◌≡◌, length};
 ghost use Rattle.ring.specs.Ring.{ring_at};
 ghost use Rattle.ring.specs.Handed.{scratch_at};
 ghost use Rattle.exported.specs.Replies.{reply, lent, Filled};
 ghost use Rattle.exported.specs.Rings.{ring_reply};
 
-use crate::{DONE, ROOM};
+use crate::{DONE, ROOM, tell};
 use objects::Cursor;
 use ring::{RingAnswer, RingStep};
 
 // Where an object lies; where there is none, 0 is told.
-const FIRST: usize = 1;
+const FIRST: u64 = 1;
 
-const SECOND: usize = 2;
+const SECOND: u64 = 2;
 
-const BOTH: usize = 3;
-
-// Answers this number, and five values into the lent slice.
-fn tell_five(out: &mut [u64], number: u32, a: usize, b: usize, c: u32, d: usize, e: usize) -> u32
-    ensures { reply result out.new ≡ lent (reply number (a ∷ b ∷ c ∷ d ∷ e ∷ [])) out.old }
-{
-    if out.len() < 5 {
-        return ROOM;
-    }
-    out[0] = a as u64;
-    out[1] = b as u64;
-    out[2] = c as u64;
-    out[3] = d as u64;
-    out[4] = e as u64;
-    number
-}
+const BOTH: u64 = 3;
 
 // Answers what a step found: the numbers of a step over one log, and then where the object lies.
 fn tell_ring(out: &mut [u64], s: RingStep) -> u32
     ensures { reply result out.new ≡ lent (ring_reply s) out.old }
 {
-    let next = s.next;
-    let on = next.at;
-    let answer = s.answer;
-    match answer {
+    let on = s.next.at as u64;
+    match s.answer {
         RingAnswer::First { start, size, kind } => {
-            tell_five(out, 0, start, size, kind, on, FIRST)
+            tell(out, 0, [start as u64, size as u64, kind as u64, on, FIRST])
         }
         RingAnswer::Second { start, size, kind } => {
-            tell_five(out, 0, start, size, kind, on, SECOND)
+            tell(out, 0, [start as u64, size as u64, kind as u64, on, SECOND])
         }
         RingAnswer::Copied { start, size, kind } => {
-            tell_five(out, 0, start, size, kind, on, BOTH)
+            tell(out, 0, [start as u64, size as u64, kind as u64, on, BOTH])
         }
-        RingAnswer::Done => tell_five(out, DONE, on, 0, 0, on, 0),
-        RingAnswer::Refused { number, place } => { tell_five(out, number, place, 0, 0, on, 0) }
+        RingAnswer::Done => tell(out, DONE, [on, 0, 0, on, 0]),
+        RingAnswer::Refused { number, place } => tell(out, number, [place as u64, 0, 0, on, 0]),
     }
 }
 

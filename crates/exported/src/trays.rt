@@ -6,16 +6,16 @@ ghost use Rattle.exported.specs.Trays.{filled_reply, under_first, under_second, 
 
 use crate::{ROOM, tell};
 use headers::Origin;
-use tray::{Common, TrayAnswer, Trayed};
+use tray::{Common, Trayed};
 
 // Answers the refusal, or 0, and how many messages were written.
 fn tell_tray(out: &mut [u64], t: Trayed) -> u32
     ensures { reply result out.new ≡ lent (filled_reply t) out.old }
 {
-    let answer = t.answer;
-    match answer {
-        TrayAnswer::All => tell(out, 0, t.written),
-        TrayAnswer::Refused { number, place: _ } => tell(out, number, t.written),
+    let written = t.written as u64;
+    match t.answer {
+        Ok(()) => tell(out, 0, [written]),
+        Err(refusal) => tell(out, refusal.number(), [written]),
     }
 }
 

@@ -6,9 +6,7 @@ use mathlib.Core.List.{List, [], ◌∷◌}
 use native.Mathlib.Omega.{arith}
 use lib.IntN.{ℤ, pos, negsuc}
 use lib.ListN.{length}
-use Rattle.input.specs.declared.Input.{Input}
-use Rattle.input.specs.declared.Input.TheVariants.{Bytes, Failed}
-use Rattle.input.specs.Taken.{input_of, Taken}
+use Rattle.input.specs.Taken.{Input, Bytes, Failed, input_of, Taken}
 
 pub record Reading (x y : List ℕ) (n : ℕ) : Type 0 where
   pub few : n ≤ length x

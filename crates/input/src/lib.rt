@@ -8,17 +8,8 @@ use std::fs;
 use std::fs::Files;
 use std::io::Read;
 
-// How many bytes came before the input ended or the buffer was full; or a read that failed.
-#[derive(Clone, Copy)]
-pub enum Input {
-    Bytes(usize),
-    Failed,
-}
-
-impl Input {
-    // The most bytes that an input may have.
-    pub const LIMIT: usize = 65536;
-}
+// The most bytes that an input may have.
+pub const LIMIT: usize = 65536;
 
 // Room for an input of the limit, and for one byte more, which shows that it is too long.
 pub fn buffer() -> [u8; 65537]
@@ -27,32 +18,27 @@ pub fn buffer() -> [u8; 65537]
     [0; 65537]
 }
 
-// Reads until the input ends, the buffer is full or a read fails. Pieces may be small.
-pub fn read_all<R: Read>(from: &mut R, buf: &mut [u8]) -> Input
+// Reads until the input ends, the buffer is full or a read fails: how many bytes came, or none of these where one failed.
+// Pieces may be small.
+pub fn read_all<R: Read>(from: &mut R, buf: &mut [u8]) -> Option<usize>
     ensures { Taken result buf.old buf.new }
 {
     let mut n: usize = 0;
     while n < buf.len() {
-        let Ok(more) = from.read(&mut buf[n..]) else {
-            return Input::Failed;
-        };
+        let more = from.read(&mut buf[n..]).ok()?;
         if more == 0 {
-            return Input::Bytes(n);
+            return Some(n);
         }
         n += more;
     }
-    Input::Bytes(n)
+    Some(n)
 }
 
-// Reads a file to its end; failed where it can't be opened or read, as one whose name is no text, since a path of std is.
-pub fn read_file<F: Files>(files: &F, name: &[u8], buf: &mut [u8]) -> Input
+// Reads a file to its end; none where it can't be opened or read, as one whose name is no text, since a path of std is.
+pub fn read_file<F: Files>(files: &F, name: &[u8], buf: &mut [u8]) -> Option<usize>
     ensures { TakenFile result buf.old buf.new }
 {
-    let Ok(path) = str::from_utf8(name) else {
-        return Input::Failed;
-    };
-    let Ok(mut file) = fs::open(files, path) else {
-        return Input::Failed;
-    };
+    let path = str::from_utf8(name).ok()?;
+    let mut file = fs::open(files, path).ok()?;
     read_all(&mut file, buf)
 }

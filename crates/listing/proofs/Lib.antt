@@ -1,5 +1,4 @@
 pub mod Decimals
 pub mod Texts
 pub mod Listings
-pub mod Reports
 pub mod Exact

@@ -1,5 +1,5 @@
 -- Texts put in a buffer, one behind the other. Assumes nothing.
-use mathlib.Core.Path.{◌≡◌, refl, sym, subst, ◌∙◌}
+use mathlib.Core.Path.{◌≡◌, sym, subst, ◌∙◌}
 use mathlib.Core.List.{List, ◌++◌}
 use Prim.Native.Nat.{ℕ, ◌+◌, ◌≤◌, ◌<◌}
 use native.Mathlib.Nat.{add_assoc}
@@ -8,16 +8,12 @@ use lib.ListN.{length, take, length-append}
 use lib.Seq.{length-take-le}
 use Rattle.io.specs.Digits.{last_digits, IsDigitCount}
 use Rattle.io.specs.Counts.{IsPrefixLen}
-use Rattle.fields.specs.Written.{Wrote}
 use Rattle.fields.proofs.Writing.{then, wrote_length}
 use Rattle.listing.specs.Text.{said, Said}
 use Rattle.listing.proofs.Decimals.{decimal_short, in_decimal}
 
 pub counts : (n : ℕ) (xs : List ℕ) → n ≤ length xs → IsPrefixLen n xs
 counts n xs h = (h, sym (length-take-le n xs h))
-
-pub worded : {at : ℕ} {bs x y : List ℕ} → Wrote at bs x y → at + length bs ≤ length x → Said at bs x y (at + length bs)
-worded {at} {bs} {x} {y} w h = record { wrote = w; ends = refl; inside = counts (at + length bs) y (omega (arith, wrote_length w)) }
 
 -- one text behind another is one text
 pub on : {i j e : ℕ} {a b x y z : List ℕ} → Said i a x y j → Said j b y z e → Said i (a ++ b) x z e

@@ -1,9 +1,8 @@
 -- 01, "Two programs": what the lister prints.
-use Rattle.std.specs.Prelude.{ℕ, cond, List, [], ◌∷◌, ◌++◌, length, take, leb}
+use Rattle.std.specs.Prelude.{ℕ, cond, None, Some, List, [], ◌∷◌, ◌++◌, length, take, leb}
 use Rattle.objects.specs.Named.{Entry}
 use Rattle.objects.specs.Stepping.{Ended, at_end, refused, no_step_left, met_at, objects_of}
-use Rattle.input.specs.declared.Input.{Input}
-use Rattle.input.specs.declared.Input.TheVariants.{Bytes, Failed}
+use Rattle.input.specs.Taken.{Input}
 use Rattle.listing.specs.Text.{object_line, end_line, refused_line, too_long_text, no_file}
 
 -- a line for each object
@@ -30,5 +29,5 @@ page_of s = cond (leb (length s) limit) (listing_of s) too_long_text
 
 -- what is printed for what came of reading
 unfoldable pub report_of : Input → List ℕ → List ℕ
-report_of (Bytes n) buf = page_of (take n buf)
-report_of Failed buf = no_file
+report_of (Some n) buf = page_of (take n buf)
+report_of None buf = no_file

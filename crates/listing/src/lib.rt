@@ -9,7 +9,6 @@ ghost use Rattle.input.specs.Taken.{Within};
 ghost use Rattle.listing.specs.Text.{Said};
 ghost use Rattle.listing.specs.Listing.{listing_of, page_of, report_of};
 
-use input::Input;
 use objects::{Answer, Cursor};
 pub use words::{accepted_line, put, refused_line};
 use words::{end_line, object_line};
@@ -54,19 +53,19 @@ fn page_of(log: &[u8], out: &mut [u8]) -> usize
     requires { 262208 ≤ length out.old }
     ensures { Said 0 (page_of log.now) out.old out.new result }
 {
-    if Input::LIMIT < log.len() {
+    if input::LIMIT < log.len() {
         return put(b"too long\n", out, 0);
     }
     list(log, out)
 }
 
 // What the lister prints for what came of reading into a buffer.
-pub fn report(got: Input, buf: &[u8], out: &mut [u8]) -> usize
+pub fn report(got: Option<usize>, buf: &[u8], out: &mut [u8]) -> usize
     requires { Within got buf.now × (262208 ≤ length out.old) }
     ensures { Said 0 (report_of got buf.now) out.old out.new result }
 {
-    let Input::Bytes(n) = got else {
-        return put(b"no file\n", out, 0);
-    };
-    page_of(&buf[..n], out)
+    match got {
+        Some(n) => page_of(&buf[..n], out),
+        None => put(b"no file\n", out, 0),
+    }
 }

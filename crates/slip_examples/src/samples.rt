@@ -18,7 +18,7 @@ pub fn overload() -> [u8; 36]
     ensures { 36 ≡ length result }
 {
     let mut log = [0u8; 36];
-    can_records::write_overload(
+    let _ = can_records::write_overload(
         can::Overload {
             header: header(),
             channel: 1,
@@ -54,7 +54,7 @@ pub fn second_overload() -> [u8; 44]
         version: 0,
         stamp: 1000000,
     };
-    can_records::write_overload(can::Overload { header, channel: 1 }, &mut log);
+    let _ = can_records::write_overload(can::Overload { header, channel: 1 }, &mut log);
     log
 }
 

@@ -1,42 +1,39 @@
 // Prints an example's words and what came out.
-use outcomes::Written;
-use slips::Verdict;
+use headers::Refusal;
 use std::io;
-use tray::{TrayAnswer, Trayed};
+use tray::Trayed;
 
-fn refused(rt: &impl Print, refusal: u32, place: usize) -> io::Result<()> {
-    println!(rt; "refused {refusal} at {place}")
+fn refused(rt: &impl Print, refusal: Refusal) -> io::Result<()> {
+    println!(rt; "refused {} at {}", refusal.number(), refusal.place())
 }
 
 // What the check answers.
 pub fn check(rt: &impl Print, words: &[u8], log: &[u8], bundle: &[u8]) -> io::Result<()> {
     rt.write_all(words)?;
     match slips::check(log, bundle) {
-        Verdict::Accepted(n) => println!(rt; "accepted {n}"),
-        Verdict::Refused { number: k, place } => refused(rt, k, place),
+        Ok(n) => println!(rt; "accepted {n}"),
+        Err(refusal) => refused(rt, refusal),
     }
 }
 
 // What a write answers.
-pub fn write(rt: &impl Print, words: &[u8], written: Written) -> io::Result<()> {
+pub fn write(rt: &impl Print, words: &[u8], written: Result<usize, Refusal>) -> io::Result<()> {
     rt.write_all(words)?;
     match written {
-        Written::Used(n) => println!(rt; "{n} bytes used"),
-        Written::Refused { number: k, place } => refused(rt, k, place),
+        Ok(n) => println!(rt; "{n} bytes used"),
+        Err(refusal) => refused(rt, refusal),
     }
 }
 
 // How many messages of a tray were written, and what refused the next.
 pub fn tray(rt: &impl Print, words: &[u8], t: Trayed) -> io::Result<()> {
     rt.write_all(words)?;
-    let n = t.written;
-    print!(rt; "written {n}")?;
-    let answer = t.answer;
-    match answer {
-        TrayAnswer::All => println!(rt; ""),
-        TrayAnswer::Refused { number: k, place } => {
+    print!(rt; "written {}", t.written)?;
+    match t.answer {
+        Ok(()) => println!(rt; ""),
+        Err(refusal) => {
             print!(rt; ", ")?;
-            refused(rt, k, place)
+            refused(rt, refusal)
         }
     }
 }

@@ -1,5 +1,4 @@
 -- That the code is the definition: what its loops know, and what each way out answers.
-pub mod Climbing
 pub mod Cutting
 pub mod Comparing
 pub mod Standing

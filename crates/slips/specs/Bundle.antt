@@ -4,7 +4,7 @@
 -- are the slips that Cut finds.
 use Rattle.std.specs.Prelude.{ℕ, ◌+◌, ◌*◌, ◌<◌, ◌≤◌, ◌≡◌, List, [], ◌∷◌, ◌++◌, length}
 use Rattle.fields.specs.Digits.{be}
-use Rattle.objects.specs.Named.{Entry}
+use Rattle.objects.specs.declared.Entry.{Entry}
 use Rattle.objects.specs.Rising.{Rising}
 use Rattle.slips.specs.Cut.{Slip, slip_limit}
 

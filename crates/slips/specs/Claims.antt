@@ -1,6 +1,6 @@
 -- What an answer of the check claims; it is given exactly where its claim holds (proofs/Theorems/Verdicts).
 use Rattle.std.specs.Prelude.{ℕ, ◌≤◌, ◌≡◌, List, length}
-use Rattle.objects.specs.declared.Walked.TheVariants as walked
+use Rattle.objects.specs.Answers as walked
 use Rattle.objects.specs.Walk.{walk_of}
 use Rattle.objects.specs.Logs.{LogOf}
 use Rattle.objects.specs.Named.{entries_of}

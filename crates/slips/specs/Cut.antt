@@ -3,7 +3,7 @@
 use Rattle.std.specs.Prelude.{ℕ, zero, suc, ◌+◌, ◌-◌, ◌/◌, ◌%◌, Bool, true, cond, ◌&&◌, List, [], ◌∷◌, length, drop, get_or, eqb, leb}
 use Rattle.fields.specs.Numbers.{big}
 use Rattle.headers.specs.HeadTests.{first}
-use Rattle.objects.specs.Named.{Entry}
+use Rattle.objects.specs.declared.Entry.{Entry}
 
 pub record Slip : Type 0 where
   pub desk : ℕ

@@ -1,6 +1,6 @@
 -- How many entries of a type there are.
 use Rattle.std.specs.Prelude.{ℕ, ◌+◌, cond, List, [], ◌∷◌, eqb}
-use Rattle.objects.specs.Named.{Entry}
+use Rattle.objects.specs.declared.Entry.{Entry}
 
 abbrev pub kinds : ℕ → List Entry → ℕ
 kinds t [] = 0

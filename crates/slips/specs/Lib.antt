@@ -4,6 +4,7 @@ pub mod Trouble
 pub mod Claims
 pub mod Bundle
 pub mod Soonest
+pub mod Verdicts
 pub mod Check
 pub mod Replies
 pub mod Share

@@ -1,6 +1,7 @@
 -- What is right: every entry is an object's start, size and type; every object stands on exactly one slip, once.
 use Rattle.std.specs.Prelude.{ℕ, ◌+◌, ◌≡◌, Bool, cond, ◌&&◌, List, [], ◌∷◌, ◌⊎◌, eqb}
-use Rattle.objects.specs.Named.{Entry, In}
+use Rattle.objects.specs.declared.Entry.{Entry}
+use Rattle.objects.specs.Named.{In}
 use Rattle.slips.specs.Cut.{Slip}
 
 -- the entries, slip by slip

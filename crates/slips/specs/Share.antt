@@ -1,8 +1,9 @@
 -- The honest bundle: the objects of a log shared out among at most eight desks, whose bytes rise; some may have none.
 use Rattle.std.specs.Prelude.{ℕ, ◌+◌, ◌<◌, ◌≤◌, ◌≡◌, cond, List, [], ◌∷◌, ◌⊎◌, length, eqb}
 use Rattle.fields.specs.Numbers.{Bytes}
-use Rattle.objects.specs.Named.{Entry, In}
-use Rattle.slips.specs.declared.pass.Verdict.TheVariants.{Accepted}
+use Rattle.objects.specs.declared.Entry.{Entry}
+use Rattle.objects.specs.Named.{In}
+use Rattle.slips.specs.Verdicts.{Accepted}
 use Rattle.slips.specs.Cut.{Slip, slip_limit}
 use Rattle.slips.specs.Check.{check_of}
 

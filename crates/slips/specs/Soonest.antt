@@ -1,7 +1,7 @@
 -- The trouble of specs/Trouble as a function; `trouble_is_first` of proofs/Trouble/Troubles says that it is the one
 -- claimed there.
 use Rattle.std.specs.Prelude.{cond, ◌&&◌, ◌||◌, List, [], ◌∷◌, eqb, leb, ltb}
-use Rattle.objects.specs.Named.{Entry}
+use Rattle.objects.specs.declared.Entry.{Entry}
 use Rattle.slips.specs.Right.{times, times_all}
 use Rattle.slips.specs.Trouble.{Trouble, None, Found}
 

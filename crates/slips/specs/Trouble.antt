@@ -1,6 +1,7 @@
 -- 01, "Slips": 25 STRAY, 26 TWICE and 27 UNLISTED, "at the smallest start in trouble, 25 before 26 before 27".
 use Rattle.std.specs.Prelude.{ℕ, ◌<◌, ◌≤◌, ◌≡◌, List, ◌⊎◌}
-use Rattle.objects.specs.Named.{Entry, In}
+use Rattle.objects.specs.declared.Entry.{Entry}
+use Rattle.objects.specs.Named.{In}
 use Rattle.slips.specs.Right.{On, times_all}
 
 -- 25: an entry equals no object's start, size and type; its own start is in trouble

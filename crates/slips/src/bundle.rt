@@ -1,7 +1,13 @@
 // The bundle: where its slips stand, or the first of 24 and 20 to 23 that refuses it.
-ghost use Rattle.std.specs.Prelude.{◌≡◌, ◌*◌, ◌≤◌, length};
+ghost use Rattle.std.specs.Prelude.{◌≡◌, ◌/◌, length};
+ghost use Rattle.headers.specs.Faults.{tested};
 ghost use Rattle.slips.specs.Cut.{entries_in, rises_from, shape_ok, fault_of, cut_of};
 ghost use Rattle.slips.specs.Inner.Places.{placed};
+
+use headers::{Fault, Refusal};
+
+// A bundle has at most this many slips.
+pub const SLIPS: usize = 8;
 
 // What is left of a slip: its next entry, and its end.
 #[derive(Clone, Copy)]
@@ -10,49 +16,24 @@ pub struct Place {
     pub end: usize,
 }
 
-// The places of the slips, where number is 0; else the bundle is refused by this number at this place.
-#[derive(Clone, Copy)]
-pub struct Bundle {
-    pub places: [Place; Bundle::SLIPS],
-    pub number: u32,
-    pub place: usize,
-}
-
-impl Bundle {
-    // A bundle has at most this many slips.
-    pub const SLIPS: usize = 8;
-}
-
-// The refusals of a bundle, by document 01's names.
-const SHAPE: u32 = 20;
-
-const VERSION: u32 = 21;
-
-const DESK: u32 = 22;
-
-const ORDER: u32 = 23;
-
-const NINTH: u32 = 24;
-
-// Whether the starts of the first n entries rise strictly.
-fn rises(t: &[u8], n: usize) -> bool
-    requires { 12 * n ≤ length t.now }
-    ensures { result ≡ rises_from 0 (entries_in n t.now) }
+// Whether the starts of these entries rise strictly.
+#[tactic(auto, using(crate::proofs::Format::Chunks::entries_chunk, crate::proofs::Format::Chunks::entries_none))]
+fn rises(entries: &[u8]) -> bool
+    ensures { result ≡ rises_from 0 (entries_in (length entries.now / 12) entries.now) }
 {
-    let mut least: usize = 0;
-    let mut i: usize = 0;
-    while i < n {
-        let start = fields::get32_be(t, 12 * i) as usize;
+    let mut least = 0;
+    for entry in entries.chunks_exact(12) {
+        let start = fields::get32_be(entry, 0) as usize;
         if start < least {
             return false;
         }
         least = start + 1;
-        i += 1;
     }
     true
 }
 
 // Whether what is left of a bundle begins with a slip's length and has that many bytes.
+#[tactic(auto, unfolding(crate::specs::Cut::shape_ok))]
 fn shape_ok(t: &[u8]) -> bool
     ensures { result ≡ shape_ok t.now }
 {
@@ -60,71 +41,52 @@ fn shape_ok(t: &[u8]) -> bool
         return false;
     }
     let n = fields::get32_be(t, 0) as usize;
-    if n < 2 {
-        return false;
-    }
-    if (n - 2) % 12 != 0 {
-        return false;
-    }
-    4 + n <= t.len()
+    n >= 2 && (n - 2) % 12 == 0 && 4 + n <= t.len()
 }
 
-// What refuses the slip that what is left of a bundle begins with: 20, 21, 22, 23, or 0 for nothing. Its desk must be
-// at least this.
-fn fault(t: &[u8], least: usize) -> u32
-    ensures { result ≡ fault_of t.now least }
+// What refuses the slip that what is left of a bundle begins with: 20, 21, 22 or 23. Its desk must be at least this.
+#[tactic(auto, using(crate::proofs::Format::SlipFaults::shaped), unfolding(crate::specs::Cut::fault_of, headers::specs::HeadTests::first))]
+fn fault(t: &[u8], least: usize) -> Result<(), Fault>
+    ensures { tested result ≡ fault_of t.now least }
 {
     if !shape_ok(t) {
-        return SHAPE;
+        return Err(Fault::Shape);
     }
     if t[4] != 1 {
-        return VERSION;
+        return Err(Fault::Version);
     }
     if (t[5] as usize) < least {
-        return DESK;
+        return Err(Fault::Desk);
     }
-    let n = fields::get32_be(t, 0) as usize;
-    if rises(&t[6..], (n - 2) / 12) {
-        return 0;
+    let end = 4 + fields::get32_be(t, 0) as usize;
+    if !rises(&t[6..end]) {
+        return Err(Fault::Order);
     }
-    ORDER
+    Ok(())
 }
 
-// The slips of a bundle, or what refuses it first.
-pub fn read(b: &[u8]) -> Bundle
+// The places of a bundle's slips, or what refuses it first.
+pub fn read(b: &[u8]) -> Result<[Place; SLIPS], Refusal>
     ensures { result ≡ placed (cut_of b.now) }
 {
-    let none = [Place { at: 0, end: 0 }; Bundle::SLIPS];
-    let mut places = none;
-    let mut at: usize = 0;
-    let mut least: usize = 0;
-    let mut i: usize = 0;
-    while at < b.len() {
-        if i == Bundle::SLIPS {
-            return Bundle {
-                places: none,
-                number: NINTH,
-                place: at,
-            };
+    let mut places = [Place { at: 0, end: 0 }; SLIPS];
+    let mut at = 0;
+    let mut least = 0;
+    for place in &mut places {
+        if at == b.len() {
+            break;
         }
         let t = &b[at..];
-        let number = fault(t, least);
-        if number != 0 {
-            return Bundle {
-                places: none,
-                number,
-                place: at,
-            };
+        if let Err(fault) = fault(t, least) {
+            return Err(fault.at(at));
         }
         let end = at + (4 + fields::get32_be(t, 0) as usize);
-        places[i] = Place { at: at + 6, end };
+        *place = Place { at: at + 6, end };
         least = t[5] as usize + 1;
         at = end;
-        i += 1;
     }
-    Bundle {
-        places,
-        number: 0,
-        place: 0,
+    if at < b.len() {
+        return Err(Fault::Ninth.at(at));
     }
+    Ok(places)
 }

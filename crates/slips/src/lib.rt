@@ -5,5 +5,4 @@ mod bundle;
 mod merge;
 mod pass;
 
-pub use bundle::{Bundle, Place};
-pub use pass::{Verdict, check};
+pub use pass::check;

@@ -1,9 +1,11 @@
 // One object beside the slips: what each slip's next entry is to it, and the slips moved past it.
-ghost use Rattle.std.specs.Prelude.{◌≡◌, min};
+ghost use Rattle.std.specs.Prelude.{◌≡◌};
 ghost use Rattle.slips.specs.Inner.Places.{Placed, AllPlaced};
-ghost use Rattle.slips.specs.Inner.Merge.{compare_at, merged_of};
+ghost use Rattle.slips.specs.Inner.Merge.{compare_at, merged_of, trouble_at, refused_by};
 
-use crate::bundle::{Bundle, Place};
+use crate::bundle::{Place, SLIPS};
+use headers::{Fault, Refusal};
+use objects::Entry;
 
 // The next entry of a slip beside an object: it starts above it or there is none, it names it, or it is a stray.
 #[derive(Clone, Copy)]
@@ -13,83 +15,72 @@ pub enum Compared {
     Stray(usize),
 }
 
-// The slips moved past an object: how many named it, and the lowest start of a stray (PAST where there is none).
+// The slips moved past an object: how many named it, and the lowest start of a stray.
 #[derive(Clone, Copy)]
 pub struct Merged {
-    pub places: [Place; Bundle::SLIPS],
+    pub places: [Place; SLIPS],
     pub hits: u32,
-    pub low: usize,
+    pub low: Option<usize>,
 }
 
 impl Merged {
-    // Above every start that an entry can hold.
-    pub const PAST: usize = 4294967296;
+    // What is wrong at the object that starts here: a stray, or that it is named twice or not at all.
+    pub fn trouble(&self, start: usize) -> Option<Refusal>
+        ensures { result ≡ refused_by (trouble_at start self.now.low self.now.hits) }
+    {
+        match self.low {
+            Some(stray) => Some(Fault::Stray.at(stray)),
+            None => match self.hits {
+                0 => Some(Fault::Unlisted.at(start)),
+                1 => None,
+                _ => Some(Fault::Twice.at(start)),
+            },
+        }
+    }
 }
 
 // What the next entry of a slip is to this object: start, size and type are compared, as whole numbers.
-fn compare(p: Place, b: &[u8], start: usize, size: usize, kind: u32) -> Compared
+#[tactic(auto, using(crate::proofs::Loops::Comparing::none_left, crate::proofs::Loops::Comparing::entry_left))]
+fn compare(p: Place, b: &[u8], object: Entry) -> Compared
     requires { Placed b.now p }
-    ensures { result ≡ compare_at b.now (record { start = start; size = size; kind = kind }) p }
+    ensures { result ≡ compare_at b.now object p }
 {
-    let at = p.at;
-    if p.end <= at {
+    if p.end <= p.at {
         return Compared::Miss;
     }
-    let s = fields::get32_be(b, at) as usize;
-    if start < s {
+    let start = fields::get32_be(b, p.at) as usize;
+    if object.start < start {
         return Compared::Miss;
     }
-    if s != start {
-        return Compared::Stray(s);
+    if start == object.start
+        && fields::get32_be(b, p.at + 4) as usize == object.size
+        && fields::get32_be(b, p.at + 8) == object.kind
+    {
+        return Compared::Hit;
     }
-    if fields::get32_be(b, at + 4) as usize != size {
-        return Compared::Stray(s);
-    }
-    if fields::get32_be(b, at + 8) != kind {
-        return Compared::Stray(s);
-    }
-    Compared::Hit
-}
-
-fn lesser(a: usize, b: usize) -> usize
-    ensures { result ≡ min a b }
-{
-    if a < b {
-        return a;
-    }
-    b
+    Compared::Stray(start)
 }
 
 // The slips, each moved past its entry of this object.
-pub(crate) fn advance(
-    places: [Place; Bundle::SLIPS],
-    b: &[u8],
-    start: usize,
-    size: usize,
-    kind: u32,
-) -> Merged
+#[tactic(auto, using(crate::proofs::Loops::Turns::standing, crate::proofs::Loops::Turns::turned_all, crate::proofs::Loops::Turns::turning_none), unfolding(crate::specs::Inner::Merge::merged_of))]
+pub(crate) fn advance(places: [Place; SLIPS], b: &[u8], object: Entry) -> Merged
     requires { AllPlaced b.now places }
-    ensures { result ≡ merged_of b.now (record { start = start; size = size; kind = kind }) places }
+    ensures { result ≡ merged_of b.now object places }
 {
     let mut out = places;
-    let mut hits: u32 = 0;
-    let mut low = Merged::PAST;
-    let mut i: usize = 0;
-    while i < Bundle::SLIPS {
-        let p = out[i];
-        match compare(p, b, start, size, kind) {
+    let mut hits = 0;
+    let mut low = None;
+    for place in &mut out {
+        match compare(*place, b, object) {
             Compared::Miss => {}
             Compared::Hit => {
                 hits += 1;
-                let at = p.at;
-                let end = p.end;
-                out[i] = Place { at: at + 12, end };
+                place.at += 12;
             }
-            Compared::Stray(s) => {
-                low = lesser(s, low);
+            Compared::Stray(start) => {
+                low = Some(low.map_or(start, |least: usize| least.min(start)));
             }
         }
-        i += 1;
     }
     Merged {
         places: out,

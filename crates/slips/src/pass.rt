@@ -2,136 +2,68 @@
 ghost use Rattle.std.specs.Prelude.{◌≡◌};
 ghost use Rattle.slips.specs.Check.{check_of};
 ghost use Rattle.slips.specs.Inner.Places.{AllPlaced};
-ghost use Rattle.slips.specs.Inner.Pass.{walk_on_of, at_end_of, merge_log_of};
+ghost use Rattle.slips.specs.Inner.Pass.{at_end_of, merge_log_of};
 
-use crate::bundle::{Bundle, Place, read};
-use crate::merge::{Merged, advance};
-use objects::{Answer, Cursor};
-
-// Accepted with the number of the log's objects, or refused by a number at a place.
-#[derive(Clone, Copy)]
-pub enum Verdict {
-    Accepted(usize),
-    Refused { number: u32, place: usize },
-}
-
-// The refusals of a pair, by document 01's names.
-const STRAY: u32 = 25;
-
-const TWICE: u32 = 26;
-
-const UNLISTED: u32 = 27;
-
-const LONG: u32 = 28;
+use crate::bundle::{Place, SLIPS, read};
+use crate::merge::advance;
+use headers::{Fault, Refusal};
+use objects::{Cursor, Entry};
 
 // The most bytes that a log may have.
 const LONGEST: usize = 4294967295;
 
-// Trouble is met: the walk goes on alone, and the trouble is told where it ends well.
-fn walk_on(log: &[u8], from: Cursor, number: u32, place: usize) -> Verdict
-    ensures { result ≡ walk_on_of log.now from.at number place }
-{
-    let mut c = from;
-    loop {
-        let step = c.step(log);
-        let answer = step.answer;
-        let Answer::Object {
-            start: _,
-            size: _,
-            kind: _,
-        } = answer
-        else {
-            match answer {
-                Answer::Refused {
-                    number: k,
-                    place: p,
-                } => {
-                    return Verdict::Refused {
-                        number: k,
-                        place: p,
-                    };
-                }
-                _ => {
-                    return Verdict::Refused { number, place };
-                }
-            }
-        };
-        let next = step.next;
-        c = next;
-    }
-}
+// Behind the log's last object: above every start that an entry can hold.
+const END: Entry = Entry {
+    start: LONGEST + 1,
+    size: 0,
+    kind: 0,
+};
 
 // Behind the last of n objects: an entry that is left is stray.
-fn at_end(b: &[u8], places: [Place; Bundle::SLIPS], n: usize) -> Verdict
+#[tactic(auto, unfolding(crate::specs::Inner::Pass::at_end_of))]
+fn at_end(b: &[u8], places: [Place; SLIPS], n: usize) -> Result<usize, Refusal>
     requires { AllPlaced b.now places }
     ensures { result ≡ at_end_of b.now places n }
 {
-    let m = advance(places, b, Merged::PAST, 0, 0);
-    if m.low < Merged::PAST {
-        return Verdict::Refused {
-            number: STRAY,
-            place: m.low,
-        };
+    match advance(places, b, END).low {
+        Some(start) => Err(Fault::Stray.at(start)),
+        None => Ok(n),
     }
-    Verdict::Accepted(n)
 }
 
 // The walk and the merge together: how many objects there are, or the first refusal.
-fn merge_log(log: &[u8], b: &[u8], places: [Place; Bundle::SLIPS]) -> Verdict
+fn merge_log(log: &[u8], b: &[u8], places: [Place; SLIPS]) -> Result<usize, Refusal>
     requires { AllPlaced b.now places }
     ensures { result ≡ merge_log_of log.now b.now places }
 {
     let mut c = Cursor::new();
     let mut slips = places;
-    let mut n: usize = 0;
+    let mut n = 0;
     loop {
         let step = c.step(log);
-        let answer = step.answer;
-        let next = step.next;
-        let Answer::Object { start, size, kind } = answer else {
-            match answer {
-                Answer::Refused { number, place } => {
-                    return Verdict::Refused { number, place };
-                }
-                _ => {
-                    return at_end(b, slips, n);
-                }
-            }
+        let Some(object) = step.answer? else {
+            return at_end(b, slips, n);
         };
-        let m = advance(slips, b, start, size, kind);
-        if m.low < Merged::PAST {
-            return walk_on(log, next, STRAY, m.low);
+        let merged = advance(slips, b, object);
+        if let Some(trouble) = merged.trouble(object.start) {
+            // It is told where the log behind it is well formed.
+            step.next.walk(log)?;
+            return Err(trouble);
         }
-        if m.hits == 0 {
-            return walk_on(log, next, UNLISTED, start);
-        }
-        if m.hits != 1 {
-            return walk_on(log, next, TWICE, start);
-        }
-        let moved = m.places;
-        slips = moved;
+        slips = merged.places;
         n += 1;
-        c = next;
+        c = step.next;
     }
 }
 
-// Whether the slips of the bundle name the objects of the log, each exactly once. Writes nothing.
-pub fn check(log: &[u8], bundle: &[u8]) -> Verdict
+// Whether the slips of the bundle name the objects of the log, each exactly once: how many objects there are, or what
+// refuses. Writes nothing.
+pub fn check(log: &[u8], bundle: &[u8]) -> Result<usize, Refusal>
     ensures { result ≡ check_of log.now bundle.now }
 {
     if LONGEST < log.len() {
-        return Verdict::Refused {
-            number: LONG,
-            place: 0,
-        };
+        return Err(Fault::Long.at(0));
     }
-    let cut = read(bundle);
-    if cut.number != 0 {
-        return Verdict::Refused {
-            number: cut.number,
-            place: cut.place,
-        };
-    }
-    let places = cut.places;
+    let places = read(bundle)?;
     merge_log(log, bundle, places)
 }

@@ -42,8 +42,8 @@ use Rattle.ring.specs.Handed.{scratch_at, ring_view_at}
 use Rattle.outcomes.specs.declared.Written.TheVariants as written
 use Rattle.outcomes.specs.Reads.{look_at, record_in, record_at}
 use Rattle.outcomes.specs.Writes.{foreign_ok, refusal_of, buffer_of}
-use Rattle.tray.specs.declared.TrayAnswer.{TrayAnswer}
-use Rattle.tray.specs.declared.TrayAnswer.TheVariants as trays
+use Rattle.tray.specs.Answers as trays
+use Rattle.tray.specs.Answers.{TrayAnswer}
 use Rattle.tray.specs.declared.Trayed.{Trayed}
 use Rattle.tray.specs.Tray.{together, message_at, messages_from, in_turn, tray_of}
 use Rattle.tray.specs.Claims.{each}
@@ -88,7 +88,7 @@ ringed_as s x = (s.next.at ∷ ring_as s.answer) ++ x
 
 abbrev tray_as : TrayAnswer → List ℕ
 tray_as trays.All = 0 ∷ []
-tray_as (trays.Refused number place) = 1 ∷ number ∷ place ∷ []
+tray_as (Err r) = 1 ∷ r.number ∷ r.place ∷ []
 
 abbrev trayed_as : Trayed → List ℕ → List ℕ
 trayed_as t y = (t.written ∷ tray_as t.answer) ++ y

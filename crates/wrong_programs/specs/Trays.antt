@@ -1,10 +1,9 @@
 -- W-207: wrong trays, each a function of what is common, the ids, the time stamps, the data and the output.
-use Rattle.std.specs.Prelude.{ℕ, suc, ◌*◌, ◌-◌, cond, List, ◌++◌, length, take, get_or, replicate, eqb}
+use Rattle.std.specs.Prelude.{ℕ, suc, ◌*◌, ◌-◌, cond, Err, List, ◌++◌, length, take, get_or, replicate, eqb}
 use Rattle.fields.specs.Numbers.{zeros}
 use Rattle.headers.specs.Format.{unit_ok}
 use Rattle.tray.specs.declared.Common.{Common}
-use Rattle.tray.specs.declared.TrayAnswer.{TrayAnswer}
-use Rattle.tray.specs.declared.TrayAnswer.TheVariants.{All, Refused}
+use Rattle.tray.specs.Answers.{TrayAnswer, All, Refused}
 use Rattle.tray.specs.Tray.{messages_from, Tray, tray, in_turn, tray_of}
 use Rattle.tray.specs.Claims.{each}
 
@@ -14,7 +13,7 @@ Program = Common → List ℕ → List ℕ → List ℕ → List ℕ → Tray
 -- the one where all are written, else the other
 abbrev pub by_answer : Tray → Tray → TrayAnswer → Tray
 by_answer whole refused All = whole
-by_answer whole refused (Refused number place) = refused
+by_answer whole refused (Err r) = refused
 
 -- the messages in turn, whatever the slices
 abbrev pub untested : Program

@@ -1,9 +1,10 @@
--- `exported::tell` meets its contract. Assumes nothing.
-use Rattle.exported.proofs.Lending.{too_short, room}
+-- `exported::tell` meets its contract: too short, or the values copied to the front. Assumes nothing.
+use Rattle.std.proofs.Common.{rules}
+use Rattle.exported.proofs.Lending.{too_short, told}
 use Rattle.exported.proofs.tell.Goals as goal
 
-pub returns-then-out-lt1 : goal.returns-then-out-lt1
-returns-then-out-lt1 c = too_short _ _ c.if-out-lt1.true
+pub returns-then-out : goal.returns-then-out
+returns-then-out g c = too_short _ _ (search rules)
 
 pub returns : goal.returns
-returns c = room _ _ c.if-out-lt1.false
+returns g c = told _ _ _ _ _ (search rules) (search rules) c.copy_from_slice.ensures.after

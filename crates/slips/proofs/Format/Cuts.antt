@@ -30,11 +30,11 @@ pub record Next (k : ℕ) (t : List ℕ) (at least : ℕ) (ss : List Slip) : Typ
 module _ (k : ℕ) (t : List ℕ) (at least : ℕ) (ss : List Slip) where
   next_onto : fault_of t least ≡ 0 → (c : Cut) → behind k t at ≡ c → onto (slip_in t) c ≡ Slips ss → Next k t at least ss
   next_onto f (Slips qs) e q = record { whole = no_fault t least f; list = qs; first = cc; then = e }
-  next_onto f (Fault j p) e q = absurd (let z : ◌≡◌ {A = ℕ} 0 1 = cc in omega arith)
+  next_onto f (Fault j p) e q = absurd cc
 
   next_fault : (f : ℕ) → fault_of t least ≡ f → or_fault f at (onto (slip_in t) (behind k t at)) ≡ Slips ss → Next k t at least ss
   next_fault zero e q = next_onto e (behind k t at) refl q
-  next_fault (suc f) e q = absurd (let z : ◌≡◌ {A = ℕ} 0 1 = cc in omega arith)
+  next_fault (suc f) e q = absurd cc
 
   next_more : (b : Bool) → eqb (length t) 0 ≡ b → cond b (Slips []) (or_fault (fault_of t least) at (onto (slip_in t) (behind k t at))) ≡ Slips ss
       → ((length t ≡ 0) × (ss ≡ [])) ⊎ Next k t at least ss
@@ -46,7 +46,7 @@ module _ (k : ℕ) (t : List ℕ) (at least : ℕ) (ss : List Slip) where
 
 last_pick : (t : List ℕ) (at : ℕ) (ss : List Slip) (b : Bool) → eqb (length t) 0 ≡ b → cond b (Slips []) (Fault 24 at) ≡ Slips ss → (length t ≡ 0) × (ss ≡ [])
 last_pick t at ss true e q = (eqb-true _ _ e, cc)
-last_pick t at ss false e q = absurd (let z : ◌≡◌ {A = ℕ} 0 1 = cc in omega arith)
+last_pick t at ss false e q = absurd cc
 
 pub last_slip : (t : List ℕ) (at least : ℕ) (ss : List Slip) → cut_from zero t at least ≡ Slips ss → (length t ≡ 0) × (ss ≡ [])
 last_slip t at least ss q = last_pick t at ss (eqb (length t) 0) refl q

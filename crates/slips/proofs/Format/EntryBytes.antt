@@ -13,7 +13,7 @@ use Rattle.fields.specs.Digits.{be}
 use Rattle.fields.proofs.Parts.{drop_bytes}
 use Rattle.fields.proofs.Reading.{more}
 use Rattle.fields.proofs.Zeros.{both_true}
-use Rattle.objects.specs.Named.{Entry}
+use Rattle.objects.specs.declared.Entry.{Entry}
 use Rattle.objects.specs.Rising.{Above, Rising}
 use Rattle.slips.specs.Bundle.{entry_bytes, entries_bytes, Fits, AllFit}
 use Rattle.slips.specs.Cut.{entry_in, entries_in, rises_from}

@@ -2,9 +2,9 @@
 use mathlib.Core.Path.{◌≡◌}
 use mathlib.Core.Bool.{true, false, ◌&&◌}
 use mathlib.Core.List.{List}
-use Prim.Native.Nat.{ℕ, ◌+◌, ◌-◌, ◌/◌, ◌%◌, ◌<◌, ◌≤◌}
+use Prim.Native.Nat.{ℕ, ◌+◌, ◌-◌, ◌/◌, ◌%◌, ◌≤◌}
 use native.Mathlib.Omega.{arith}
-use borrow.Author.Tests.{le-leb, lt-leb, eq-eqb, ne_eqb, leb-true, eqb-true}
+use borrow.Author.Tests.{le-leb, eq-eqb, leb-true, eqb-true}
 use lib.ListN.{length, drop, get_or}
 use lib.Dec.{leb, eqb}
 use Rattle.fields.proofs.Zeros.{both_true}
@@ -66,27 +66,12 @@ module _ (t : List ℕ) (least : ℕ) where
         w.rises,
       )
 
--- the ways out, in the order of the table
-module _ (t : List ℕ) (least : ℕ) where
-  pub fault_shape : shape_ok t ≡ false → 20 ≡ fault_of t least
+-- of the last test
+module _ (t : List ℕ) (least : ℕ) (s : shape_ok t ≡ true) (v : get_or t 4 0 ≡ 1) (d : least ≤ desk_in t) where
+  pub fault_order : rises_from 0 (slip_in t).entries ≡ false → 23 ≡ fault_of t least
   unfolding fault_of first
-  fault_shape s = rw s
+  fault_order r = rw (s, eq-eqb (get_or t 4 0) 1 v, le-leb least (desk_in t) d, r)
 
-  module _ (s : shape_ok t ≡ true) where
-    pub fault_version : (get_or t 4 0 ≡ 1 → ⊥) → 21 ≡ fault_of t least
-    unfolding fault_of first
-    fault_version v = rw (s, ne_eqb (get_or t 4 0) 1 v)
-
-    module _ (v : get_or t 4 0 ≡ 1) where
-      pub fault_desk : desk_in t < least → 22 ≡ fault_of t least
-      unfolding fault_of first
-      fault_desk d = rw (s, eq-eqb (get_or t 4 0) 1 v, lt-leb least (desk_in t) d)
-
-      module _ (d : least ≤ desk_in t) where
-        pub fault_order : rises_from 0 (slip_in t).entries ≡ false → 23 ≡ fault_of t least
-        unfolding fault_of first
-        fault_order r = rw (s, eq-eqb (get_or t 4 0) 1 v, le-leb least (desk_in t) d, r)
-
-        pub fault_nothing : rises_from 0 (slip_in t).entries ≡ true → 0 ≡ fault_of t least
-        unfolding fault_of first
-        fault_nothing r = rw (s, eq-eqb (get_or t 4 0) 1 v, le-leb least (desk_in t) d, r)
+  pub fault_nothing : rises_from 0 (slip_in t).entries ≡ true → 0 ≡ fault_of t least
+  unfolding fault_of first
+  fault_nothing r = rw (s, eq-eqb (get_or t 4 0) 1 v, le-leb least (desk_in t) d, r)

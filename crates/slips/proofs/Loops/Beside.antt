@@ -8,7 +8,9 @@ use Prim.Native.Nat.{ℕ, ◌<◌, ◌≤◌}
 use native.Mathlib.Omega.{arith}
 use borrow.Author.Tests.{ltb-true, ltb-false}
 use lib.Dec.{ltb}
-use Rattle.objects.specs.Named.{Entry, In}
+use Rattle.std.specs.Prelude.{Option, None}
+use Rattle.objects.specs.declared.Entry.{Entry}
+use Rattle.objects.specs.Named.{In}
 use Rattle.objects.specs.Rising.{Above, Rising}
 use Rattle.slips.specs.declared.merge.Compared.{Compared}
 use Rattle.slips.specs.declared.merge.Compared.TheVariants.{Miss, Hit, Stray}
@@ -21,7 +23,7 @@ use Rattle.slips.proofs.Trouble.Entries.{same_self, same_true, same_false, same_
 abbrev pub hits : Entry → List (List Entry) → ℕ
 hits o ss = hits_of (compare_of o) ss
 
-abbrev pub low : Entry → List (List Entry) → ℕ
+abbrev pub low : Entry → List (List Entry) → Option ℕ
 low o ss = low_of (compare_of o) ss
 
 abbrev pub moves : Entry → List (List Entry) → List (List Entry)
@@ -122,7 +124,7 @@ module _ (o : Entry) where
       (λ m. rw m.compared (λ r. r))
       (λ m. rw (m.first, m.compared) (λ r. r.1)) f
 
-  pub fine_lower : (s : List Entry) → Fine o s → (t : ℕ) → lower (compare_of o s) t ≡ t
+  pub fine_lower : (s : List Entry) → Fine o s → (t : Option ℕ) → lower (compare_of o s) t ≡ t
   fine_lower s f t = ⊎_elim (λ m. rw m.compared) (λ m. rw (m.first, m.compared)) f
 
   -- and what they say all
@@ -130,7 +132,7 @@ module _ (o : Entry) where
   AllFine [] = Unit
   AllFine (s ∷ ss) = Fine o s × AllFine ss
 
-  pub all_low : (ss : List (List Entry)) → AllFine ss → low o ss ≡ past
+  pub all_low : (ss : List (List Entry)) → AllFine ss → low o ss ≡ None
   all_low [] w = refl
   all_low (s ∷ ss) w = fine_lower s w.0 (low o ss) ∙ all_low ss w.1
 
@@ -178,7 +180,7 @@ pub moves_low : (o : Entry) (ss : List (List Entry)) → AllLow ss → AllLow (m
 moves_low o [] w = tt
 moves_low o (s ∷ ss) w = (move_low (compare_of o s) s w.0, moves_low o ss w.1)
 
-pub in_low : (e : Entry) (s : List Entry) → Low s → In e s → e.start < past
+in_low : (e : Entry) (s : List Entry) → Low s → In e s → e.start < past
 in_low e [] w i = absurd i
 in_low e (x ∷ s) w i = ⊎_elim (λ q. rw q w.0) (λ j. in_low e s w.1 j) i
 

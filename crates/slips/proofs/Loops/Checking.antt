@@ -6,16 +6,18 @@ use Prim.Native.Nat.{ℕ, zero, suc, ◌+◌, ◌-◌, ◌<◌, ◌≤◌}
 use native.Mathlib.Omega.{arith}
 use borrow.Author.Tests.{le-ltb, lt-ltb}
 use lib.ListN.{length, replicate}
+use Rattle.std.specs.Prelude.{Ok, Err}
 use Rattle.fields.specs.Numbers.{Bytes}
-use Rattle.objects.specs.declared.Walked.{Walked}
-use Rattle.objects.specs.declared.Walked.TheVariants as walked
-use Rattle.objects.specs.Named.{Entry}
+use Rattle.headers.specs.Refused as told
+use Rattle.objects.specs.Answers.{Walked, Count}
+use Rattle.objects.specs.declared.Entry.{Entry}
 use Rattle.objects.specs.Rising.{Rising}
 use Rattle.objects.specs.Stepping.{objects_of}
 use Rattle.objects.specs.Walk.{walk_of}
+use Rattle.objects.proofs.Answers.{same_refusal}
 use Rattle.objects.proofs.Naming.{walk_exact, log_objects, entries_rise}
-use Rattle.slips.specs.declared.bundle.Bundle.{Bundle}
-use Rattle.slips.specs.declared.pass.Verdict.TheVariants.{Refused}
+use Rattle.slips.specs.declared.bundle.Place.{Place}
+use Rattle.slips.specs.Verdicts.{Refused}
 use Rattle.slips.specs.Cut.{Slip, slip_limit, Cut, Slips, Fault, cut_of}
 use Rattle.slips.specs.Bundle.{AllFit, AllByRule}
 use Rattle.slips.specs.Right.{entries_on, times_all}
@@ -26,7 +28,7 @@ use Rattle.slips.specs.Check.{answer_of, check_of}
 use Rattle.slips.specs.Inner.Places.{places_of, nowhere, placed, AllPlaced, slips_at}
 use Rattle.slips.specs.Inner.Merge.{merge_of}
 use Rattle.slips.specs.Inner.Pass.{merge_log_of}
-use Rattle.slips.proofs.Format.Cuts.{bundle_exact, fault_number}
+use Rattle.slips.proofs.Format.Cuts.{bundle_exact}
 use Rattle.slips.proofs.Loops.Standing.{Stands, cut_stands, fill_placed, fill_slips}
 use Rattle.slips.proofs.Loops.Beside.{AllRising, Low, AllLow}
 use Rattle.slips.proofs.Loops.Merges.{merge_is}
@@ -74,57 +76,53 @@ long_refused s b l = rw (lt-ltb longest (length s) l)
 
 -- what `read` has found
 
-module _ (b : List ℕ) (r : Bundle) where
-  read_pick : (c : Cut) → cut_of b ≡ c → r ≡ placed c → r.number ≡ 0 → (ss : List Slip) × (cut_of b ≡ Slips ss)
-  read_pick (Slips ss) e q z = (ss, e)
-  read_pick (Fault k p) e q z =
-      absurd (let n : r.number ≡ k = ap (λ (x : Bundle). x.number) q in let f = fault_number b k p e in omega (arith, f.0))
+refused_pick : (r : told.Refused) (c : Cut) → Err r ≡ placed c → c ≡ Fault r.number r.place
+refused_pick r (Slips ss) q = absurd cc
+refused_pick r (Fault k p) q = let e = same_refusal q in rw (e.0, e.1)
 
-  refused_pick : (c : Cut) → r ≡ placed c → (r.number ≡ 0 → ⊥) → c ≡ Fault r.number r.place
-  refused_pick (Slips ss) q n = absurd (n (ap (λ (x : Bundle). x.number) q))
-  refused_pick (Fault k p) q n = rw q
+pub read_refused : (s b : List ℕ) → length s ≤ longest → (r : told.Refused) → Err r ≡ placed (cut_of b) → Err r ≡ check_of s b
+unfolding check_of
+read_refused s b l r q = rw (le-ltb longest (length s) l, refused_pick r (cut_of b) q)
 
-  module _ (q : r ≡ placed (cut_of b)) where
-    pub read_refused : (s : List ℕ) → length s ≤ longest → (r.number ≡ 0 → ⊥) → Refused r.number r.place ≡ check_of s b
-    unfolding check_of
-    read_refused s l n = rw (le-ltb longest (length s) l, refused_pick (cut_of b) q n)
+-- places were read: those of the slips that were cut, and the last of them empty
+record Standing (b : List ℕ) (ps : List Place) : Type 0 where
+  slips : List Slip
+  cut : cut_of b ≡ Slips slips
+  are : ps ≡ places_of 0 slips ++ replicate (slip_limit - length slips) nowhere
 
-    module _ (z : r.number ≡ 0) where
-      slips : List Slip
-      slips = (read_pick (cut_of b) refl q z).0
+read_pick : (b : List ℕ) (ps : List Place) (c : Cut) → cut_of b ≡ c → Ok ps ≡ placed c → Standing b ps
+read_pick b ps (Slips ss) e q = record { slips = ss; cut = e; are = cc }
+read_pick b ps (Fault k p) e q = absurd cc
 
-      cut : cut_of b ≡ Slips slips
-      unfolding slips
-      cut = (read_pick (cut_of b) refl q z).1
+module _ (b : List ℕ) (ps : List Place) (q : Ok ps ≡ placed (cut_of b)) where
+  read : Standing b ps
+  read = read_pick b ps (cut_of b) refl q
 
-      stands : Stands b 0 slips
-      unfolding cut_of
-      stands = cut_stands b slip_limit 0 0 slips cut
+  stands : Stands b 0 read.slips
+  unfolding cut_of
+  stands = cut_stands b slip_limit 0 0 read.slips read.cut
 
-      places : r.places ≡ places_of 0 slips ++ replicate (slip_limit - length slips) nowhere
-      places = ap (λ (x : Bundle). x.places) q ∙ rw cut
+  pub read_placed : AllPlaced b ps
+  read_placed = rw read.are (fill_placed b (places_of 0 read.slips) (slip_limit - length read.slips) stands.placed)
 
-      pub read_placed : AllPlaced b r.places
-      read_placed = rw places (fill_placed b (places_of 0 slips) (slip_limit - length slips) stands.placed)
+  entries : slips_at b ps ≡ entries_on read.slips ++ replicate (slip_limit - length read.slips) []
+  entries =
+      let m = slip_limit - length read.slips in
+      ap (slips_at b) read.are ∙ fill_slips b (places_of 0 read.slips) m ∙ ap (λ (l : List (List Entry)). l ++ replicate m []) stands.same
 
-      entries : slips_at b r.places ≡ entries_on slips ++ replicate (slip_limit - length slips) []
-      entries =
-          let m = slip_limit - length slips in
-          ap (slips_at b) places ∙ fill_slips b (places_of 0 slips) m ∙ ap (λ (l : List (List Entry)). l ++ replicate m []) stands.same
+  module _ (s : List ℕ) (bs : Bytes s) (bb : Bytes b) where
+    merged : (n : ℕ) → walk_of s ≡ Count n → merge_of (objects_of s) (slips_at b ps) ≡ trouble_of (objects_of s) (entries_on read.slips)
+    merged n e =
+        let i = (walk_exact s n).0 e in
+        let up : Rising (objects_of s) = rw (log_objects i.1) (entries_rise i.1) in
+        let rule = ((bundle_exact b read.slips bb).0 read.cut).rule in
+        let m = slip_limit - length read.slips in
+        rw entries (merge_is (objects_of s) up _ (rule_rise 0 read.slips m rule) (rule_low 0 read.slips m rule) ∙ trouble_fill (objects_of s) (entries_on read.slips) m)
 
-      module _ (s : List ℕ) (bs : Bytes s) (bb : Bytes b) where
-        merged : (n : ℕ) → walk_of s ≡ walked.Count n → merge_of (objects_of s) (slips_at b r.places) ≡ trouble_of (objects_of s) (entries_on slips)
-        merged n e =
-            let i = (walk_exact s n).0 e in
-            let up : Rising (objects_of s) = rw (log_objects i.1) (entries_rise i.1) in
-            let rule = ((bundle_exact b slips bb).0 cut).rule in
-            let m = slip_limit - length slips in
-            rw entries (merge_is (objects_of s) up _ (rule_rise 0 slips m rule) (rule_low 0 slips m rule) ∙ trouble_fill (objects_of s) (entries_on slips) m)
+    answered : (w : Walked) → walk_of s ≡ w → answer_of w (merge_of (objects_of s) (slips_at b ps)) ≡ answer_of w (trouble_of (objects_of s) (entries_on read.slips))
+    answered (Count n) e = rw (merged n e)
+    answered (Err r) e = refl
 
-        answered : (w : Walked) → walk_of s ≡ w → answer_of w (merge_of (objects_of s) (slips_at b r.places)) ≡ answer_of w (trouble_of (objects_of s) (entries_on slips))
-        answered (walked.Count n) e = rw (merged n e)
-        answered (walked.Refused k p) e = refl
-
-        pub read_merged : length s ≤ longest → merge_log_of s b r.places ≡ check_of s b
-        unfolding merge_log_of check_of
-        read_merged l = rw (le-ltb longest (length s) l, cut) (answered (walk_of s) refl)
+    pub read_merged : length s ≤ longest → merge_log_of s b ps ≡ check_of s b
+    unfolding merge_log_of check_of
+    read_merged l = rw (le-ltb longest (length s) l, read.cut) (answered (walk_of s) refl)

@@ -1,16 +1,16 @@
 -- The slip at a place: what `compare` reads there and what each way out of it answers, and the slip moved past its
 -- entry. Assumes nothing.
-use mathlib.Core.Path.{◌≡◌, refl, sym}
+use mathlib.Core.Path.{◌≡◌, refl}
 use mathlib.Core.Bool.{Bool, true, false, cond}
 use mathlib.Core.List.{List, [], ◌∷◌}
 use Prim.Native.Nat.{ℕ, zero, suc, ◌+◌, ◌-◌, ◌*◌, ◌/◌, ◌<◌, ◌≤◌}
 use native.Mathlib.Omega.{arith}
-use borrow.Author.Tests.{le-ltb, lt-ltb, eq-eqb, ne_eqb, leb-true, leb-false}
+use borrow.Author.Tests.{leb-true, leb-false}
 use lib.ListN.{drop}
 use lib.Seq.{drop-drop}
 use lib.Dec.{leb, ltb}
 use Rattle.fields.specs.Numbers.{big}
-use Rattle.objects.specs.Named.{Entry}
+use Rattle.objects.specs.declared.Entry.{Entry}
 use Rattle.slips.specs.declared.bundle.Place.{Place}
 use Rattle.slips.specs.declared.merge.Compared.{Compared}
 use Rattle.slips.specs.declared.merge.Compared.TheVariants.{Miss, Hit, Stray}
@@ -47,39 +47,16 @@ module _ (b : List ℕ) (p : Place) where
   slip_more w l = slip_suc w.many w.whole l
 
   module _ (o : Entry) (w : Placed b p) where
-    none_left : p.end ≤ p.at → compare_at b o p ≡ Miss
+    pub none_left : p.end ≤ p.at → compare_at b o p ≡ Miss
     unfolding compare_at
     none_left l = rw (slip_none w l)
 
-    entry_left : p.at < p.end → compare_at b o p ≡ cond (ltb o.start (big 4 b p.at)) Miss (cond (same (entry_at b p.at) o) Hit (Stray (big 4 b p.at)))
+    pub entry_left : p.at < p.end → compare_at b o p ≡ cond (ltb o.start (big 4 b p.at)) Miss (cond (same (entry_at b p.at) o) Hit (Stray (big 4 b p.at)))
     unfolding compare_at
     entry_left l = rw (slip_more w l)
 
-    pub compare_none : p.end ≤ p.at → Miss ≡ compare_at b o p
-    compare_none l = sym (none_left l)
-
-    -- the ways out of `compare`, by what it has read: the start x, the size y, the type z
-    module _ (l : p.at < p.end) {x : ℕ} (e : x ≡ big 4 b p.at) where
-      pub compare_above : o.start < x → Miss ≡ compare_at b o p
-      compare_above h = rw (entry_left l, ← e, lt-ltb o.start x h)
-
-      module _ (h : x ≤ o.start) where
-        pub compare_start : (x ≡ o.start → ⊥) → Stray x ≡ compare_at b o p
-        compare_start n = rw (entry_left l, ← e, le-ltb o.start x h, ne_eqb x o.start n)
-
-        module _ (i : x ≡ o.start) {y : ℕ} (f : y ≡ big 4 b (p.at + 4)) where
-          pub compare_size : (y ≡ o.size → ⊥) → Stray x ≡ compare_at b o p
-          compare_size n = rw (entry_left l, ← e, le-ltb o.start x h, eq-eqb x o.start i, ← f, ne_eqb y o.size n)
-
-          module _ (j : y ≡ o.size) {z : ℕ} (g : z ≡ big 4 b (p.at + 8)) where
-            pub compare_kind : (z ≡ o.kind → ⊥) → Stray x ≡ compare_at b o p
-            compare_kind n = rw (entry_left l, ← e, le-ltb o.start x h, eq-eqb x o.start i, ← f, eq-eqb y o.size j, ← g, ne_eqb z o.kind n)
-
-            pub compare_hit : z ≡ o.kind → Hit ≡ compare_at b o p
-            compare_hit k = rw (entry_left l, ← e, le-ltb o.start x h, eq-eqb x o.start i, ← f, eq-eqb y o.size j, ← g, eq-eqb z o.kind k)
-
     hit_pick : (t : Bool) → leb p.end p.at ≡ t → compare_at b o p ≡ Hit → p.at < p.end
-    hit_pick true e q = absurd (let y = none_left (leb-true _ _ e) in let z : ◌≡◌ {A = ℕ} 0 1 = cc in omega arith)
+    hit_pick true e q = absurd (let y = none_left (leb-true _ _ e) in cc)
     hit_pick false e q = leb-false _ _ e
 
     -- a slip that is hit has an entry

@@ -1,13 +1,15 @@
 -- The bundle as `read` cuts it: what it knows before each turn, and what each way out answers. Assumes nothing.
 use mathlib.Core.Path.{◌≡◌, refl, sym, ap, ◌∙◌}
 use mathlib.Core.Bool.{false}
-use mathlib.Core.List.{List, [], ◌∷◌, ◌++◌, append-nil}
+use mathlib.Core.List.{List, [], ◌∷◌, ◌++◌}
 use Prim.Native.Nat.{ℕ, zero, suc, ◌+◌, ◌-◌, ◌<◌, ◌≤◌}
 use native.Mathlib.Omega.{arith}
 use borrow.Author.Tests.{ne_eqb}
-use lib.ListN.{length, drop, set, replicate, length-append, length-drop, drop_of_length-le}
+use lib.ListN.{length, drop, set, replicate, length-append, length-drop}
 use lib.Seq.{append_snoc, set_at, drop-drop}
 use lib.Dec.{eqb}
+use Rattle.std.specs.Prelude.{Err}
+use Rattle.headers.specs.Refused.{refusal}
 use Rattle.slips.specs.declared.bundle.Place.{Place}
 use Rattle.slips.specs.Cut.{Slip, slip_limit, length_in, desk_in, slip_in, fault_of, Cut, Slips, Fault, onto, or_fault, cut_from, cut_of}
 use Rattle.slips.specs.Bundle.{slip_length}
@@ -66,27 +68,10 @@ unfolding cut_of
 cutting_none b =
     record { few = omega arith; within = omega arith; desk = omega arith; list = []; many = refl; ends = refl; filling = refl; same = onto_none (cut_from slip_limit b 0 0) }
 
-cut_end : (t : List ℕ) (at least k : ℕ) → t ≡ [] → cut_from k t at least ≡ Slips []
-cut_end t at least zero e = rw e
-cut_end t at least (suc k) e = rw e
-
 module _ (b : List ℕ) (places : List Place) (at least i : ℕ) (c : Cutting b places at least i) where
-  pub cut_done : length b ≤ at → record { places = places; number = 0; place = 0 } ≡ placed (cut_of b)
-  cut_done l =
-      let e : cut_of b ≡ Slips c.list =
-      sym c.same ∙ rw (cut_end (drop at b) at least (slip_limit - i) (drop_of_length-le b l)) (ap Slips (append-nil c.list)) in
-      rw (e, c.many, c.filling)
-
   module _ (l : at < length b) where
     more : eqb (length (drop at b)) 0 ≡ false
     more = ne_eqb (length (drop at b)) 0 (λ z. omega (arith, length-drop at b))
-
-    pub cut_ninth : i ≡ slip_limit → record { places = replicate slip_limit nowhere; number = 24; place = at } ≡ placed (cut_of b)
-    cut_ninth z =
-        let y : slip_limit - i ≡ 0 = omega arith in
-        let x : onto_all c.list (cut_from 0 (drop at b) at least) ≡ cut_of b = rw y at c.same in
-        let e : cut_of b ≡ Fault 24 at = sym x ∙ rw more in
-        rw e
 
     module _ (z : i ≡ slip_limit → ⊥) where
       -- the next slip is tried
@@ -100,7 +85,7 @@ module _ (b : List ℕ) (places : List Place) (at least i : ℕ) (c : Cutting b 
       bad zero u n = absurd (n refl)
       bad (suc k) u n = sym (rw (← u) at next)
 
-      pub cut_fault : (k : ℕ) → k ≡ fault_of (drop at b) least → (k ≡ 0 → ⊥) → record { places = replicate slip_limit nowhere; number = k; place = at } ≡ placed (cut_of b)
+      pub cut_fault : (k : ℕ) → k ≡ fault_of (drop at b) least → (k ≡ 0 → ⊥) → Err (refusal k at) ≡ placed (cut_of b)
       cut_fault k u n = rw (bad k u n)
 
       pub cut_more : fault_of (drop at b) least ≡ 0 → desk_in (drop at b) < 256

@@ -6,14 +6,15 @@ use mathlib.Core.List.{List, [], ◌∷◌}
 use mathlib.Core.Logic.{◌⊎◌, inl, inr, ⊎_elim}
 use Prim.Native.Nat.{ℕ, ◌<◌, ◌≤◌}
 use native.Mathlib.Omega.{arith}
-use borrow.Author.Tests.{lt-ltb, eqb-true, eqb-false}
+use borrow.Author.Tests.{eqb-true, eqb-false}
 use lib.Dec.{eqb}
-use Rattle.objects.specs.Named.{Entry, In}
+use Rattle.objects.specs.declared.Entry.{Entry}
+use Rattle.objects.specs.Named.{In}
 use Rattle.objects.specs.Rising.{Above, Rising}
 use Rattle.slips.specs.Right.{times_all}
 use Rattle.slips.specs.Trouble.{StrayAt, TwiceAt, UnlistedAt, InTrouble, Trouble, None, Found, First}
 use Rattle.slips.specs.Soonest.{trouble_of}
-use Rattle.slips.specs.Inner.Merge.{past, the_end, merge_of}
+use Rattle.slips.specs.Inner.Merge.{the_end, or_later, merge_of}
 use Rattle.slips.proofs.Trouble.Entries.{start_same, in_above}
 use Rattle.slips.proofs.Trouble.Least.{Before, before_le, one_least}
 use Rattle.slips.proofs.Trouble.Troubles.{trouble_is_first}
@@ -33,7 +34,7 @@ end ss w =
     (troubled [] ss (λ k x. ⊥)
     (λ x t. let a = all_least the_end ss f t.0 t.1 in let c = on_low t.0 ss w t.1 in omega arith)
     (λ x t. t.1) (λ x t. t.1)))
-    (λ t. rw (t.is, lt-ltb t.entry.start past (on_low t.entry ss w t.here)) (
+    (λ t. rw t.is (
       inl (refl, (t.entry, t.here, (λ i. i), refl)),
       troubled [] ss (Before 25 t.entry.start)
           (λ x u. before_le 25 t.entry.start 25 x (let l = t.lowest u.0 u.1 in omega (arith, u.3)) (omega arith))
@@ -115,20 +116,20 @@ module _ (o : Entry) (os : List Entry) (up : Above o.start os) (ss : List (List 
     on_first z (Found k x) n = (forth k x n.0, λ k' x' i. n.1 k' x' (back z k' x' i))
 
     settled : (t u : Bool) → eqb (hits o ss) 0 ≡ t → eqb (hits o ss) 1 ≡ u → (r : Trouble) → First os (moves o ss) r
-        → First (o ∷ os) ss (cond t (Found 27 o.start) (cond u r (Found 26 o.start)))
+        → First (o ∷ os) ss (or_later (cond t (Found 27 o.start) (cond u None (Found 26 o.start))) r)
     settled true u et eu r n = unlisted_first (eqb-true _ _ et)
     settled false true et eu r n = on_first (eqb-true _ _ eu) r n
     settled false false et eu r n = twice_is_first (let a = eqb-false (hits o ss) 0 et in let b = eqb-false (hits o ss) 1 eu in omega arith)
 
 merge_first : (os : List Entry) → Rising os → (ss : List (List Entry)) → AllRising ss → AllLow ss → First os ss (merge_of os ss)
-merge_first [] up ss r w = end ss w (sort the_end ss r w)
+merge_first [] up ss r w = end ss w (sort the_end ss r)
 merge_first (o ∷ os) up ss r w =
     ⊎_elim
     (λ f.
     let ih = merge_first os up.1 (moves o ss) (all_rising o ss f r) (moves_low o ss w) in
     rw (all_low o ss f) (settled o os up.0 ss f (eqb (hits o ss) 0) (eqb (hits o ss) 1) refl refl _ ih))
-    (λ t. rw (t.is, lt-ltb t.entry.start past (on_low t.entry ss w t.here)) (stray_first o os up.0 ss t))
-    (sort o ss r w)
+    (λ t. rw t.is (stray_first o os up.0 ss t))
+    (sort o ss r)
 
 pub merge_is : (os : List Entry) → Rising os → (ss : List (List Entry)) → AllRising ss → AllLow ss → merge_of os ss ≡ trouble_of os ss
 merge_is os up ss r w = one_least (InTrouble os ss) (merge_of os ss) (trouble_of os ss) (merge_first os up ss r w) (trouble_is_first os ss)

@@ -1,23 +1,34 @@
 -- One slip more: what `advance` knows when the first i slips are moved, and what each arm of its match adds. For any
 -- rule h that says what the next entry of a slip is to the object. Assumes nothing.
-use mathlib.Core.Path.{◌≡◌, refl, sym, ap, ◌∙◌}
+use mathlib.Core.Path.{◌≡◌, refl, sym, ap, ap₂, ◌∙◌}
 use mathlib.Core.List.{List, [], ◌∷◌, ◌++◌, append-nil}
 use Prim.Native.Nat.{ℕ, zero, suc, ◌+◌, ◌<◌, ◌≤◌, min}
 use native.Mathlib.Omega.{arith}
 use native.Mathlib.Numerals.{add-one}
 use lib.ListN.{length, get_or, take, drop, set, drop_of_length-le}
 use lib.Seq.{take-suc, drop-cons, append_snoc, take_all, get_or_at, set_at, length-take-le}
+use Rattle.std.specs.Prelude.{Option, Some, MatchOption}
+use Rattle.std.specs.Prelude as opt
 use Rattle.slips.specs.declared.bundle.Place.{Place}
 use Rattle.slips.specs.declared.merge.Compared.{Compared}
 use Rattle.slips.specs.declared.merge.Compared.TheVariants.{Miss, Hit, Stray}
 use Rattle.slips.specs.Cut.{slip_limit}
 use Rattle.slips.specs.Inner.Places.{Placed, AllPlaced, nowhere}
-use Rattle.slips.specs.Inner.Merge.{past, move_place, moved_of, hit_of, hits_of, lower, low_of}
+use Rattle.slips.specs.Inner.Merge.{move_place, moved_of, hit_of, hits_of, lower, low_of}
 
 pub placed_at : (b : List ℕ) (ps : List Place) → AllPlaced b ps → (i : ℕ) → i < length ps → Placed b (get_or ps i nowhere)
 placed_at b [] h i l = absurd (omega arith)
 placed_at b (p ∷ ps) h zero l = h.0
 placed_at b (p ∷ ps) h (suc i) l = placed_at b ps h.1 i (omega arith)
+
+one_hit : (e : Compared) → hit_of e ≤ 1
+one_hit Miss = omega arith
+one_hit Hit = omega arith
+one_hit (Stray s) = omega arith
+
+pub lowest_stray : (low : Option ℕ) (s r : ℕ) → MatchOption low (r ≡ s) (λ y. r ≡ min y s) → Some r ≡ lower (Stray s) low
+lowest_stray opt.None s r e = rw e
+lowest_stray (Some y) s r e = rw e
 
 module _ (h : Place → Compared) where
   abbrev moved_by : List Place → List Place
@@ -31,12 +42,13 @@ module _ (h : Place → Compared) where
   hits_snoc [] p = omega arith
   hits_snoc (x ∷ xs) p = omega (arith, hits_snoc xs p)
 
-  lower_swap : (a b : Compared) (t : ℕ) → lower a (lower b t) ≡ lower b (lower a t)
+  lower_swap : (a b : Compared) (t : Option ℕ) → lower a (lower b t) ≡ lower b (lower a t)
   lower_swap Miss b t = refl
   lower_swap Hit b t = refl
   lower_swap (Stray s) Miss t = refl
   lower_swap (Stray s) Hit t = refl
-  lower_swap (Stray s) (Stray r) t = omega arith
+  lower_swap (Stray s) (Stray r) opt.None = ap Some (omega arith)
+  lower_swap (Stray s) (Stray r) (Some t) = ap Some (omega arith)
 
   low_snoc : (xs : List Place) (p : Place) → low_of h (xs ++ (p ∷ [])) ≡ lower (h p) (low_of h xs)
   low_snoc [] p = refl
@@ -47,17 +59,17 @@ module _ (h : Place → Compared) where
   length_moved (x ∷ xs) = ap suc (length_moved xs)
 
   -- the slips before i are moved, and those from i on stand where they stood
-  pub record Turning (out₀ out : List Place) (hits low i : ℕ) : Type 0 where
+  pub record Turning (out₀ out : List Place) (hits : ℕ) (low : Option ℕ) (i : ℕ) : Type 0 where
     pub within : i ≤ slip_limit
     pub moved : out ≡ moved_by (take i out₀) ++ drop i out₀
     pub hit : hits ≡ hits_of h (take i out₀)
     pub few : hits ≤ i
     pub lowest : low ≡ low_of h (take i out₀)
 
-  pub turning_none : (out₀ : List Place) → Turning out₀ out₀ 0 past 0
+  pub turning_none : (out₀ : List Place) → Turning out₀ out₀ 0 opt.None 0
   turning_none out₀ = record { within = omega arith; moved = refl; hit = refl; few = omega arith; lowest = refl }
 
-  module _ (out₀ out : List Place) (hits low i : ℕ) (l : i < slip_limit) (len : length out₀ ≡ slip_limit) (m : Turning out₀ out hits low i) where
+  module _ (out₀ out : List Place) (hits : ℕ) (low : Option ℕ) (i : ℕ) (l : i < slip_limit) (len : length out₀ ≡ slip_limit) (m : Turning out₀ out hits low i) where
     abbrev here : Place
     here = get_or out₀ i nowhere
 
@@ -74,31 +86,29 @@ module _ (h : Place → Compared) where
     pub still : get_or out i nowhere ≡ here
     still = rw apart (get_or_at (moved_by (take i out₀)) _ _ nowhere i long)
 
-    turn : (out' : List Place) (hits' low' : ℕ) → out' ≡ moved_by (take i out₀) ++ move_place (h here) here ∷ drop (suc i) out₀
-        → hits' ≡ hits + hit_of (h here) → low' ≡ lower (h here) low → hits' ≤ i + 1 → Turning out₀ out' hits' low' (i + 1)
-    turn out' hits' low' q a b f =
+    -- it is moved, and its hit and its stray are counted
+    pub turn : (e : Compared) → h (get_or out i nowhere) ≡ e → {hits' : ℕ} → hits' ≡ hits + hit_of e → {low' : Option ℕ} → low' ≡ lower e low
+        → Turning out₀ (set out i (move_place e (get_or out i nowhere))) hits' low' (i + 1)
+    turn e q a b =
+        let f : h here ≡ e = rw still at q in
         record {
           within = omega arith;
-          moved = q ∙ sym (append_snoc (moved_by (take i out₀)) _ _) ∙ rw (add-one, take-suc out₀ i nowhere inside, moved_snoc);
-          hit = a ∙ rw (add-one, take-suc out₀ i nowhere inside, hits_snoc, m.hit);
-          few = f;
-          lowest = b ∙ rw (add-one, take-suc out₀ i nowhere inside, low_snoc, m.lowest);
+          moved =
+              ap₂ (λ (l : List Place) (p : Place). set l i (move_place e p)) apart still
+              ∙ set_at (moved_by (take i out₀)) here (drop (suc i) out₀) (move_place e here) i long
+              ∙ sym (append_snoc (moved_by (take i out₀)) (move_place e here) (drop (suc i) out₀))
+              ∙ rw (add-one, take-suc out₀ i nowhere inside, moved_snoc, f);
+          hit = a ∙ rw (add-one, take-suc out₀ i nowhere inside, hits_snoc, m.hit, f);
+          few = omega (arith, a, m.few, one_hit e);
+          lowest = b ∙ rw (add-one, take-suc out₀ i nowhere inside, low_snoc, m.lowest, f);
         }
 
-    pub turn_miss : h (get_or out i nowhere) ≡ Miss → Turning out₀ out hits low (i + 1)
-    turn_miss e = let f : h here ≡ Miss = rw still at e in turn out hits low (rw f apart) (rw f (omega arith)) (rw f) (omega (arith, m.few))
+  -- each slip stands in the bundle
+  pub standing : (b : List ℕ) (out₀ : List Place) → AllPlaced b out₀ → (out : List Place) (hits : ℕ) (low : Option ℕ) (i : ℕ) → i < slip_limit → length out₀ ≡ slip_limit
+      → Turning out₀ out hits low i → Placed b (get_or out i nowhere)
+  standing b out₀ w out hits low i l len m = rw (still out₀ out hits low i l len m) (placed_at b out₀ w i (omega (arith, len)))
 
-    pub turn_stray : (s : ℕ) → h (get_or out i nowhere) ≡ Stray s → (low' : ℕ) → low' ≡ min s low → Turning out₀ out hits low' (i + 1)
-    turn_stray s e low' z =
-        let f : h here ≡ Stray s = rw still at e in turn out hits low' (rw f apart) (rw f (omega arith)) (rw f z) (omega (arith, m.few))
-
-    pub turn_hit : h (get_or out i nowhere) ≡ Hit
-        → Turning out₀ (set out i (record { at = (get_or out i nowhere).at + 12; end = (get_or out i nowhere).end })) (hits + 1) low (i + 1)
-    turn_hit e =
-        let f : h here ≡ Hit = rw still at e in
-        turn _ (hits + 1) low (rw (f, still, apart) (set_at (moved_by (take i out₀)) _ _ _ i long)) (rw f) (rw f) (omega (arith, m.few))
-
-  pub turned_all : (out₀ out : List Place) (hits low : ℕ) → length out₀ ≡ slip_limit → Turning out₀ out hits low slip_limit
+  pub turned_all : (out₀ out : List Place) (hits : ℕ) (low : Option ℕ) → length out₀ ≡ slip_limit → Turning out₀ out hits low slip_limit
       → (out ≡ moved_by out₀) × (hits ≡ hits_of h out₀) × (low ≡ low_of h out₀)
   turned_all out₀ out hits low len m =
       let t : take slip_limit out₀ ≡ out₀ = take_all slip_limit out₀ (omega arith) in

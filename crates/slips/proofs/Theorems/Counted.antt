@@ -11,10 +11,11 @@ use lib.ListN.{length}
 use lib.Dec.{eqb}
 use Rattle.fields.specs.Numbers.{Bytes}
 use Rattle.objects.specs.Logs.{LogOf}
-use Rattle.objects.specs.Named.{Entry, In, entries_of}
+use Rattle.objects.specs.declared.Entry.{Entry}
+use Rattle.objects.specs.Named.{In, entries_of}
 use Rattle.objects.specs.Rising.{Rising}
 use Rattle.objects.proofs.Naming.{entries_rise, within, one_log}
-use Rattle.slips.specs.declared.pass.Verdict.TheVariants.{Accepted}
+use Rattle.slips.specs.Verdicts.{Accepted}
 use Rattle.slips.specs.Cut.{Slip, Slips}
 use Rattle.slips.specs.Bundle.{BundleOf}
 use Rattle.slips.specs.Right.{entries_on, On, same, times, times_all, Right}

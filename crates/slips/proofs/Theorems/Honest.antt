@@ -8,7 +8,8 @@ use lib.ListN.{length}
 use Rattle.fields.specs.Numbers.{Bytes}
 use Rattle.fields.specs.Digits.{be}
 use Rattle.objects.specs.Logs.{LogOf}
-use Rattle.objects.specs.Named.{Entry, In, entries_of}
+use Rattle.objects.specs.declared.Entry.{Entry}
+use Rattle.objects.specs.Named.{In, entries_of}
 use Rattle.objects.specs.Rising.{Rising}
 use Rattle.objects.proofs.Naming.{entries_many, entries_rise, entries_fit, room}
 use Rattle.slips.specs.Cut.{Slip}

@@ -9,7 +9,8 @@ use native.Mathlib.Omega.{arith}
 use borrow.Author.Tests.{eq-eqb, ne_eqb}
 use lib.ListN.{length}
 use lib.Dec.{eqb}
-use Rattle.objects.specs.Named.{Entry, In}
+use Rattle.objects.specs.declared.Entry.{Entry}
+use Rattle.objects.specs.Named.{In}
 use Rattle.objects.specs.Rising.{Above, Rising}
 use Rattle.slips.specs.Bundle.{AllFit, AllByRule}
 use Rattle.slips.specs.Right.{entries_on, On, same, times, times_all}

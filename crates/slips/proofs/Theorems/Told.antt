@@ -7,14 +7,14 @@ use Prim.Native.Nat.{ℕ, ◌<◌, ◌≤◌}
 use borrow.Author.Tests.{lt-ltb, le-ltb, ltb-true, ltb-false}
 use lib.ListN.{length}
 use lib.Dec.{ltb}
+use Rattle.std.specs.Prelude.{Err}
 use Rattle.fields.specs.Numbers.{Bytes}
-use Rattle.objects.specs.declared.Walked.{Walked}
-use Rattle.objects.specs.declared.Walked.TheVariants as walked
+use Rattle.objects.specs.Answers.{Walked}
+use Rattle.objects.specs.Answers as walked
 use Rattle.objects.specs.Walk.{walk_of}
 use Rattle.objects.specs.Named.{entries_of}
 use Rattle.objects.proofs.Naming.{walk_exact, log_objects}
-use Rattle.slips.specs.declared.pass.Verdict.{Verdict}
-use Rattle.slips.specs.declared.pass.Verdict.TheVariants.{Refused}
+use Rattle.slips.specs.Verdicts.{Verdict, Refused}
 use Rattle.slips.specs.Cut.{Slip, Cut, Slips, Fault, cut_of}
 use Rattle.slips.specs.Bundle.{BundleOf}
 use Rattle.slips.specs.Right.{entries_on}
@@ -67,7 +67,7 @@ module _ (s b : List ℕ) (bs : Bytes s) (bb : Bytes b) where
   told_is (slips f) = check_slips f
 
   told_walk : length s ≤ longest → (ss : List Slip) → BundleOf b ss → (w : Walked) → walk_of s ≡ w → Told s b
-  told_walk l ss h (walked.Refused k p) e = log k p (record { short = l; slips = ss; bundle = h; walk = e })
+  told_walk l ss h (Err r) e = log r.number r.place (record { short = l; slips = ss; bundle = h; walk = e })
   told_walk l ss h (walked.Count n) e =
       let i = (walk_exact s n).0 e in
       slips (record { short = l; objects = i.0; log = i.1; slips = ss; bundle = h })

@@ -7,10 +7,12 @@ use Prim.Native.Nat.{ℕ, ◌<◌, ◌≤◌}
 use native.Mathlib.Omega.{arith}
 use lib.ListN.{length}
 use Rattle.fields.specs.Numbers.{Bytes}
-use Rattle.objects.specs.declared.Walked.TheVariants as walked
-use Rattle.objects.specs.Named.{Entry, entries_of}
+use Rattle.objects.specs.Answers as walked
+use Rattle.objects.specs.declared.Entry.{Entry}
+use Rattle.objects.specs.Named.{entries_of}
+use Rattle.objects.proofs.Answers.{same_refusal}
 use Rattle.objects.proofs.Naming.{small}
-use Rattle.slips.specs.declared.pass.Verdict.TheVariants.{Accepted, Refused}
+use Rattle.slips.specs.Verdicts.{Accepted, Refused}
 use Rattle.slips.specs.Cut.{Fault, cut_of}
 use Rattle.slips.specs.Right.{entries_on}
 use Rattle.slips.specs.Trouble.{InTrouble, Trouble, None, Found, First}
@@ -25,13 +27,13 @@ use Rattle.slips.proofs.Theorems.Told.{Told, long, bundle, log, slips, told_of, 
 -- which answers there are
 
 differ : {k p n : ℕ} → Refused k p ≡ Accepted n → ⊥
-differ e = let z : ◌≡◌ {A = ℕ} 0 1 = cc in omega arith
+differ e = cc
 
 number : {k p j x : ℕ} → Refused k p ≡ Refused j x → k ≡ j
-number e = cc
+number e = (same_refusal e).0
 
 place : {k p j x : ℕ} → Refused k p ≡ Refused j x → p ≡ x
-place e = cc
+place e = (same_refusal e).1
 
 accepted_none : (m n : ℕ) (t : Trouble) → answer_of (walked.Count m) t ≡ Accepted n → (t ≡ None) × (m ≡ n)
 accepted_none m n None e = (refl, cc)
@@ -39,7 +41,7 @@ accepted_none m n (Found k x) e = absurd (differ e)
 
 refused_found : (m k x : ℕ) (t : Trouble) → answer_of (walked.Count m) t ≡ Refused k x → t ≡ Found k x
 refused_found m k x None e = absurd (differ (sym e))
-refused_found m k x (Found j y) e = let a : j ≡ k = cc in let c : y ≡ x = cc in rw (a, c)
+refused_found m k x (Found j y) e = rw (number e, place e)
 
 trouble_number : (os : List Entry) (ss : List (List Entry)) (k x : ℕ) → InTrouble os ss k x → (25 ≤ k) × (k ≤ 27)
 trouble_number os ss k x = ⊎_elim (λ t. omega (arith, t.0)) (⊎_elim (λ t. omega (arith, t.0)) (λ t. omega (arith, t.0)))
@@ -95,7 +97,7 @@ module _ (s b : List ℕ) (bs : Bytes s) (bb : Bytes b) where
   refused_log : (k p : ℕ) → k ≤ 9 → (t : Told s b) → told_of t ≡ Refused k p → LogRefused s b k p
   refused_log k p l (long h) q = absurd (omega (arith, number q))
   refused_log k p l (bundle h j x e) q = absurd (omega (arith, number q, fault_number b j x e))
-  refused_log k p l (log j x w) q = let a : j ≡ k = cc in let c : x ≡ p = cc in rw (← a, ← c) w
+  refused_log k p l (log j x w) q = rw (← number q, ← place q) w
   refused_log k p l (slips f) q = absurd (omega (arith, formed_number f k p q))
 
   pub log_refusals : (k p : ℕ) → ((k ≤ 9) × (check_of s b ≡ Refused k p)) ↔ LogRefused s b k p
@@ -108,7 +110,7 @@ module _ (s b : List ℕ) (bs : Bytes s) (bb : Bytes b) where
 
   refused_bundle : (k p : ℕ) → 20 ≤ k → k ≤ 24 → (t : Told s b) → told_of t ≡ Refused k p → (length s ≤ longest) × (cut_of b ≡ Fault k p)
   refused_bundle k p l m (long h) q = absurd (omega (arith, number q))
-  refused_bundle k p l m (bundle h j x e) q = let a : j ≡ k = cc in let c : x ≡ p = cc in (h, rw (← a, ← c) e)
+  refused_bundle k p l m (bundle h j x e) q = (h, rw (← number q, ← place q) e)
   refused_bundle k p l m (log j x w) q = absurd (omega (arith, number q, small s j x w.walk))
   refused_bundle k p l m (slips f) q = absurd (omega (arith, formed_number f k p q))
 

@@ -8,7 +8,8 @@ use native.Mathlib.Omega.{arith}
 use borrow.Author.Tests.{eq-eqb, ne_eqb, eqb-true}
 use lib.Dec.{eqb}
 use Rattle.fields.proofs.Zeros.{both_true}
-use Rattle.objects.specs.Named.{Entry, In}
+use Rattle.objects.specs.declared.Entry.{Entry}
+use Rattle.objects.specs.Named.{In}
 use Rattle.objects.specs.Rising.{Above}
 use Rattle.slips.specs.Right.{same, times}
 
@@ -25,7 +26,7 @@ same_true e x q =
     entry_same (eqb-true _ _ b.0) (eqb-true _ _ b.1) (eqb-true _ _ a.1)
 
 pub same_false : (e x : Entry) → same e x ≡ false → (e ≡ x) → ⊥
-same_false e x q z = let t = same_self x in let a : same x x ≡ false = rw z at q in let y : ◌≡◌ {A = ℕ} 0 1 = cc in omega arith
+same_false e x q z = let t = same_self x in let a : same x x ≡ false = rw z at q in cc
 
 pub same_other : (e x : Entry) → (e.start ≡ x.start → ⊥) → same e x ≡ false
 same_other e x n = rw (ne_eqb e.start x.start n)

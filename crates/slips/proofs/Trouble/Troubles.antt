@@ -8,7 +8,8 @@ use Prim.Native.Nat.{ℕ, ◌≤◌}
 use native.Mathlib.Omega.{arith}
 use borrow.Author.Tests.{eqb-true, eqb-false, ltb-true, ltb-false}
 use lib.Dec.{eqb, ltb}
-use Rattle.objects.specs.Named.{Entry, In}
+use Rattle.objects.specs.declared.Entry.{Entry}
+use Rattle.objects.specs.Named.{In}
 use Rattle.slips.specs.Right.{On, times, times_all, Right}
 use Rattle.slips.specs.Trouble.{InTrouble, Trouble, None, Found, Least, First}
 use Rattle.slips.specs.Soonest.{sooner, soonest, soonest_on, stray, miscount, trouble_of}

@@ -1,18 +1,13 @@
 -- The one pass over the log: walk and merge together, and the walk alone once trouble is met.
 use Rattle.std.specs.Prelude.{ℕ, List}
-use Rattle.objects.specs.declared.Walked.TheVariants as walked
-use Rattle.objects.specs.Stepping.{met_at, objects_of}
-use Rattle.objects.specs.Walk.{walked_by, walk_of}
+use Rattle.objects.specs.Answers as walked
+use Rattle.objects.specs.Stepping.{objects_of}
+use Rattle.objects.specs.Walk.{walk_of}
 use Rattle.slips.specs.declared.bundle.Place.{Place}
-use Rattle.slips.specs.declared.pass.Verdict.{Verdict}
-use Rattle.slips.specs.Trouble.{Found}
+use Rattle.slips.specs.Verdicts.{Verdict}
 use Rattle.slips.specs.Check.{answer_of}
 use Rattle.slips.specs.Inner.Places.{slips_at}
 use Rattle.slips.specs.Inner.Merge.{the_end, merged_of, finish, merge_of}
-
--- trouble that is told where the log from a place on is well formed
-unfoldable pub walk_on_of : List ℕ → ℕ → ℕ → ℕ → Verdict
-walk_on_of s at number place = answer_of (walked_by (met_at s at).ended 0) (Found number place)
 
 -- behind the last of n objects: an entry that is left is stray
 unfoldable pub at_end_of : List ℕ → List Place → ℕ → Verdict

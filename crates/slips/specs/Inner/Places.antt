@@ -1,8 +1,8 @@
 -- 01: "The check keeps one reading place for each of the eight slips." Where slips stand in a bundle.
-use Rattle.std.specs.Prelude.{ℕ, ◌+◌, ◌-◌, ◌*◌, ◌/◌, ◌≤◌, ◌≡◌, List, [], ◌∷◌, ◌++◌, length, drop, replicate}
-use Rattle.objects.specs.Named.{Entry}
+use Rattle.std.specs.Prelude.{ℕ, ◌+◌, ◌-◌, ◌*◌, ◌/◌, ◌≤◌, ◌≡◌, List, [], ◌∷◌, ◌++◌, length, drop, replicate, Result, Ok, Err}
+use Rattle.headers.specs.Refused.{Refused, refusal}
+use Rattle.objects.specs.declared.Entry.{Entry}
 use Rattle.slips.specs.declared.bundle.Place.{Place}
-use Rattle.slips.specs.declared.bundle.Bundle.{Bundle}
 use Rattle.slips.specs.Cut.{Slip, slip_limit, entries_in, Cut, Slips, Fault}
 use Rattle.slips.specs.Bundle.{slip_length}
 
@@ -15,9 +15,9 @@ abbrev pub nowhere : Place
 nowhere = record { at = 0; end = 0 }
 
 -- as many places as there may be slips, the last of them empty
-abbrev pub placed : Cut → Bundle
-placed (Slips ss) = record { places = places_of 0 ss ++ replicate (slip_limit - length ss) nowhere; number = 0; place = 0 }
-placed (Fault k p) = record { places = replicate slip_limit nowhere; number = k; place = p }
+abbrev pub placed : Cut → Result (List Place) Refused
+placed (Slips ss) = Ok (places_of 0 ss ++ replicate (slip_limit - length ss) nowhere)
+placed (Fault k p) = Err (refusal k p)
 
 -- what is left of a slip is whole entries within the bundle
 pub record Placed (b : List ℕ) (p : Place) : Type 0 where

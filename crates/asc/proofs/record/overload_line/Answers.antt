@@ -1,17 +1,10 @@
--- `asc::record::overload_line` meets its contract: 7 by the unit, else the line of what is told. Assumes nothing.
-use native.Mathlib.Omega.{arith}
-use Prim.Native.Nat.{◌-◌}
-use mathlib.Core.Path.{refl, sym, ap, ◌∙◌}
+-- `asc::record::overload_line` meets its contract: the line of what it tells. Assumes nothing.
+use mathlib.Core.Path.{refl}
 use Rattle.can.proofs.KnownLaws.{overload_known}
-use Rattle.digits.proofs.Texts.{said_part}
-use Rattle.asc_lines.specs.Told.{of_overload}
 use Rattle.asc.specs.Tells.{overload, tells}
-use Rattle.asc.proofs.Writings.{unit_refused, unit_taken}
+use Rattle.asc.proofs.Writings.{event_line}
 use Rattle.asc.proofs.record.overload_line.Goals as goal
-
-pub returns-then-not-unit_ok : goal.returns-then-not-unit_ok
-returns-then-not-unit_ok c = unit_refused (overload c.args.r) (sym c.unit_ok.ensures ∙ c.if-not-unit_ok.true)
 
 pub returns : goal.returns
 unfolding tells
-returns c = let r = c.args.r in let u = sym c.unit_ok.ensures ∙ c.if-not-unit_ok.false in unit_taken (overload r) u (ap of_overload c.head_told-head.ensures) (overload_known r c.well_formed.0 u) (said_part (256 - c.put_overload-n.result) c.put_overload-n.ensures refl (omega arith)) c.copy_line.ensures
+returns c = let r = c.args.r in event_line (overload r) refl (overload_known r c.well_formed.0) c.put_told.ensures

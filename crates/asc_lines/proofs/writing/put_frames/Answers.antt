@@ -3,8 +3,5 @@ use native.Mathlib.Omega.{arith}
 use Rattle.digits.proofs.Texts.{four}
 use Rattle.asc_lines.proofs.writing.put_frames.Goals as goal
 
-pub labelled-requires : goal.labelled-requires
-labelled-requires c = omega (arith, c.labelled-r.ensures.1, c.labelled-xd.ensures.1, c.labelled-xr.ensures.1, c.requires.0)
-
 pub returns : goal.returns
 returns c = (four c.labelled-xr.ensures.0 c.labelled-xd.ensures.0 c.labelled-r.ensures.0 c.labelled.ensures.0, omega arith)

@@ -1,11 +1,6 @@
--- `compare::put_all` stays in its sheet and ends. Assumes nothing.
-use Prim.Native.Nat.{◌-◌, ◌≤◌}
-use mathlib.Core.Path.{◌≡◌}
-use lib.ListN.{length}
+-- `compare::put_all` stays in its sheet. Assumes nothing.
+use Rattle.std.proofs.Common.{◌≤◌, length}
 use Rattle.compare.proofs.sheet.put_all.Given as goal
 
-abbrev pub invariant-loop-i : goal.invariant-loop-i
-invariant-loop-i l = (length l.out ≡ length l.initial.out) × (l.at ≤ length l.out)
-
-abbrev pub decreases-loop-i : goal.decreases-loop-i
-decreases-loop-i l = length l.values - l.i
+abbrev pub invariant-loop-v : goal.invariant-loop-v
+invariant-loop-v g l = l.at ≤ length l.out

@@ -1,28 +1,27 @@
--- `digits::reading::read_number` meets its contract: the rest of the number decides (`Scanning`). Assumes nothing.
+-- `digits::reading::read_number` meets its contract: what is read so far (`Scanning`). Assumes nothing.
 use native.Mathlib.Omega.{arith}
-use Rattle.digits.proofs.Loops.{scanning_none, scanning_more, scanning_fits, scanning_full, scanning_end, scanning_stop, near}
+use mathlib.Core.Path.{ap, ◌∙◌}
+use Rattle.digits.specs.Reading.{digit}
+use Rattle.digits.proofs.Loops.{scanning_none, scanning_full, scanning_stop, scanning_inside, scanning_fits, scanning_more}
 use Rattle.digits.proofs.reading.read_number.Goals as goal
 
-pub loop-left-init : goal.loop-left-init
-loop-left-init c = scanning_none _ _ _ _ c.requires.0
+pub loop-init : goal.loop-init
+loop-init c = scanning_none _ _ _ _ c.requires.0 c.requires.1
 
-pub returns-then-s-i : goal.returns-then-s-i
-returns-then-s-i c = near _ _ _ _ (scanning_end _ _ _ _ c.requires.0 _ _ _ c.loop-left.invariant (omega arith))
+pub overflow_mul-value : goal.overflow_mul-value
+overflow_mul-value c = omega (arith, scanning_fits _ _ _ _ c.requires.0 c.requires.1 _ _ _ c.loop.invariant c.loop-test.true (c.digit-d.ensures ∙ ap digit c.byte.ensures) c.if-base-d.false c.requires.2)
+
+pub overflow_add-value : goal.overflow_add-value
+overflow_add-value c = omega (arith, scanning_fits _ _ _ _ c.requires.0 c.requires.1 _ _ _ c.loop.invariant c.loop-test.true (c.digit-d.ensures ∙ ap digit c.byte.ensures) c.if-base-d.false c.requires.2)
+
+pub overflow_add-end : goal.overflow_add-end
+overflow_add-end c = omega (arith, scanning_inside _ _ _ _ c.requires.0 c.requires.1 _ _ _ c.loop.invariant c.loop-test.true (c.digit-d.ensures ∙ ap digit c.byte.ensures) c.if-base-d.false)
+
+pub loop-preserved : goal.loop-preserved
+loop-preserved c = scanning_more _ _ _ _ c.requires.0 c.requires.1 _ _ _ c.loop.invariant c.loop-test.true (c.digit-d.ensures ∙ ap digit c.byte.ensures) c.if-base-d.false
+
+pub returns-after-loop : goal.returns-after-loop
+returns-after-loop c = scanning_full _ _ _ _ c.requires.0 c.requires.1 _ _ _ c.loop.invariant c.loop-test.false
 
 pub returns-then-base-d : goal.returns-then-base-d
-returns-then-base-d c = near _ _ _ _ (scanning_stop _ _ _ _ c.requires.0 _ _ _ c.loop-left.invariant (omega arith) (omega (arith, c.digit-d.ensures)))
-
-pub overflow_mul-v : goal.overflow_mul-v
-overflow_mul-v c = omega (arith, scanning_fits _ _ _ _ c.requires.0 _ _ _ c.loop-left.invariant c.digit-d.result (omega arith) (omega arith) c.requires.2)
-
-pub overflow_add-v : goal.overflow_add-v
-overflow_add-v c = omega (arith, scanning_fits _ _ _ _ c.requires.0 _ _ _ c.loop-left.invariant c.digit-d.result (omega arith) (omega arith) c.requires.2)
-
-pub loop-left-smaller : goal.loop-left-smaller
-loop-left-smaller c = omega arith
-
-pub loop-left-preserved : goal.loop-left-preserved
-loop-left-preserved c = scanning_more _ _ _ _ c.requires.0 _ _ _ _ c.loop-left.invariant (omega arith) (omega arith) c.digit-d.ensures (omega arith)
-
-pub returns : goal.returns
-returns c = near _ _ _ _ (scanning_full _ _ _ _ c.requires.0 _ _ _ c.loop-left.invariant (omega arith))
+returns-then-base-d c = scanning_stop _ _ _ _ c.requires.0 c.requires.1 _ _ _ c.loop.invariant (c.digit-d.ensures ∙ ap digit c.byte.ensures) c.if-base-d.true

@@ -1,9 +1,6 @@
--- `digits::reading::read_number` meets its contract: the rest of the number decides (`Scanning`). Assumes nothing.
+-- `digits::reading::read_number` meets its contract: what is read so far (`Scanning`). Assumes nothing.
 use Rattle.digits.proofs.Loops.{Scanning}
 use Rattle.digits.proofs.reading.read_number.Given as goal
 
-abbrev pub invariant-loop-left : goal.invariant-loop-left
-invariant-loop-left l = Scanning l.base l.most l.s l.at l.v l.i l.left
-
-abbrev pub decreases-loop-left : goal.decreases-loop-left
-decreases-loop-left l = l.left
+abbrev pub invariant-loop : goal.invariant-loop
+invariant-loop l = Scanning l.base l.most l.s l.at l.value l.end l.counter

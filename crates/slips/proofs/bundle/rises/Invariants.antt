@@ -1,10 +1,11 @@
--- `slips::rises` meets its contract: before each turn the entries that are left decide (`Climbing`). Assumes nothing.
-use Prim.Native.Nat.{◌-◌}
-use Rattle.slips.proofs.Loops.Climbing.{Climbing}
+-- `slips::rises` meets its contract: before each turn the entries that are left decide. Assumes nothing.
+use Rattle.std.proofs.Common.{◌≡◌, ◌/◌, length}
+use Rattle.slips.specs.Cut.{entries_in, rises_from}
+use Rattle.std.specs.Slice.Iter.{chunks_exact_rest, chunks_exact_size}
 use Rattle.slips.proofs.bundle.rises.Given as goal
 
-abbrev pub invariant-loop-i : goal.invariant-loop-i
-invariant-loop-i l = Climbing l.t l.n l.least l.i
-
-abbrev pub decreases-loop-i : goal.decreases-loop-i
-decreases-loop-i l = l.n - l.i
+abbrev pub invariant-loop-entry : goal.invariant-loop-entry
+invariant-loop-entry l = record {
+  twelve : chunks_exact_size l.entry-iterator ≡ 12;
+  same : rises_from l.least (entries_in (length (chunks_exact_rest l.entry-iterator) / 12) (chunks_exact_rest l.entry-iterator)) ≡ rises_from 0 (entries_in (length l.entries / 12) l.entries);
+}

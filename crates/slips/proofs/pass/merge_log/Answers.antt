@@ -1,55 +1,46 @@
 -- `slips::merge_log` meets its contract: before each turn what is left of the walk and of the merge decides
 -- (`MergingLog`); each way out is one law of proofs/Loops/MergingLog. Assumes nothing.
-use mathlib.Core.Path.{sym, ap, ◌∙◌}
-use Rattle.objects.specs.declared.Step.{Step}
-use Rattle.objects.proofs.Answers.{left}
+use Rattle.std.proofs.lemmas.Result.{err_from_is_err_and}
+use Rattle.slips.proofs.Loops.MergingLog.{stepped}
 use Rattle.slips.proofs.Loops.MergingLog as merging
-use borrow.Enum.Refused.{opened}
 use Rattle.slips.proofs.pass.merge_log.Goals as goal
 
-pub loop-start-init : goal.loop-start-init
-loop-start-init c = rw c.new-c.ensures (merging.merging_none _ _ _ c.requires)
+pub loop-object-init : goal.loop-object-init
+loop-object-init c = rw c.new-c.ensures (merging.merging_none _ _ _ c.requires)
 
-pub returns-in-Refused : goal.returns-in-Refused
-returns-in-Refused c =
-    merging.merge_refused _ _ _ _ _ _ c.loop-start.invariant (ap (λ (x : Step). x.answer) (sym c.step-step.ensures) ∙ c.in-Refused.is)
+pub returns-in_err-object : goal.returns-in_err-object
+returns-in_err-object c =
+    let p = err_from_is_err_and c.from_residual.result c.from_residual.ensures.1 in
+    rw (p.1, p.2) (merging.merge_refused _ _ _ _ _ _ c.loop-object.invariant (stepped c.step-step.ensures c.in_err-object.was))
 
 pub at_end-requires : goal.at_end-requires
-at_end-requires c = c.loop-start.invariant.placed
+at_end-requires c = c.loop-object.invariant.placed
 
-pub returns-in_default-answer : goal.returns-in_default-answer
-returns-in_default-answer c =
-    let e = ap (λ (x : Step). x.answer) (sym c.step-step.ensures) ∙ left _ (opened c.in_default-answer.in_default-answer-own.keys2) (opened c.in_default.in_default-own.keys2) in
-    c.at_end.ensures ∙ merging.merge_end _ _ _ _ _ _ c.loop-start.invariant e
+pub returns-in_default : goal.returns-in_default
+returns-in_default c =
+    let e = stepped c.step-step.ensures (rw c.in_default.is at c.in_ok-object.was) in
+    rw c.at_end.ensures (merging.merge_end _ _ _ _ _ _ c.loop-object.invariant e)
 
-pub advance-m-requires : goal.advance-m-requires
-advance-m-requires c = c.loop-start.invariant.placed
+pub advance-merged-requires : goal.advance-merged-requires
+advance-merged-requires c = c.loop-object.invariant.placed
 
-pub returns-then-m-lt-PAST : goal.returns-then-m-lt-PAST
-returns-then-m-lt-PAST c =
-    let e = ap (λ (x : Step). x.answer) (sym c.step-step.ensures) ∙ c.in-Object.is in
-    c.walk_on.ensures ∙ rw c.step-step.ensures (merging.merge_stray _ _ _ _ _ _ c.loop-start.invariant _ _ _ e _ c.advance-m.ensures c.if-m-lt-PAST.true)
+pub returns-in_err-walk : goal.returns-in_err-walk
+returns-in_err-walk c =
+    let e = stepped c.step-step.ensures (rw c.in-Some.is at c.in_ok-object.was) in
+    let p = err_from_is_err_and c.from_residual-in_err-walk.result c.from_residual-in_err-walk.ensures.1 in
+    rw (p.1, p.2) (merging.merge_trouble _ _ _ _ _ _ c.loop-object.invariant _ e _ c.advance-merged.ensures _ c.in-Some-trouble.ensures _ (rw c.step-step.ensures at c.in_err-walk.ensures))
 
-pub returns-then-m-eq0 : goal.returns-then-m-eq0
-returns-then-m-eq0 c =
-    let e = ap (λ (x : Step). x.answer) (sym c.step-step.ensures) ∙ c.in-Object.is in
-    c.walk_on-then-m-eq0.ensures
-    ∙ rw c.step-step.ensures (merging.merge_unlisted _ _ _ _ _ _ c.loop-start.invariant _ _ _ e _ c.advance-m.ensures c.if-m-lt-PAST.false c.if-m-eq0.true)
+pub returns-in-Some-trouble : goal.returns-in-Some-trouble
+returns-in-Some-trouble c =
+    let e = stepped c.step-step.ensures (rw c.in-Some.is at c.in_ok-object.was) in
+    merging.merge_trouble _ _ _ _ _ _ c.loop-object.invariant _ e _ c.advance-merged.ensures _ c.in-Some-trouble.ensures _ (rw c.step-step.ensures at c.in_ok-walk.ensures)
 
-pub returns-then-m-ne1 : goal.returns-then-m-ne1
-returns-then-m-ne1 c =
-    let e = ap (λ (x : Step). x.answer) (sym c.step-step.ensures) ∙ c.in-Object.is in
-    c.walk_on-then-m-ne1.ensures
-    ∙ rw c.step-step.ensures
-    (merging.merge_twice _ _ _ _ _ _ c.loop-start.invariant _ _ _ e _ c.advance-m.ensures c.if-m-lt-PAST.false c.if-m-eq0.false c.if-m-ne1.true)
+pub loop-object-smaller : goal.loop-object-smaller
+loop-object-smaller c =
+    let e = stepped c.step-step.ensures (rw c.in-Some.is at c.in_ok-object.was) in
+    rw c.step-step.ensures (merging.merging_less _ _ _ _ _ _ c.loop-object.invariant _ e _ c.advance-merged.ensures)
 
-pub loop-start-smaller : goal.loop-start-smaller
-loop-start-smaller c =
-    let e = ap (λ (x : Step). x.answer) (sym c.step-step.ensures) ∙ c.in-Object.is in
-    rw c.step-step.ensures (merging.merging_less _ _ _ _ _ _ c.loop-start.invariant _ _ _ e _ c.advance-m.ensures)
-
-pub loop-start-preserved : goal.loop-start-preserved
-loop-start-preserved c =
-    let e = ap (λ (x : Step). x.answer) (sym c.step-step.ensures) ∙ c.in-Object.is in
-    rw c.step-step.ensures
-    (merging.merging_more _ _ _ _ _ _ c.loop-start.invariant _ _ _ e _ c.advance-m.ensures c.if-m-lt-PAST.false c.if-m-ne1.false)
+pub loop-object-preserved : goal.loop-object-preserved
+loop-object-preserved c =
+    let e = stepped c.step-step.ensures (rw c.in-Some.is at c.in_ok-object.was) in
+    rw c.step-step.ensures (merging.merging_more _ _ _ _ _ _ c.loop-object.invariant _ e _ c.advance-merged.ensures c.in_default-trouble.ensures)

@@ -5,8 +5,8 @@ use lib.ListN.{length}
 use Rattle.slips.proofs.Loops.MergingLog as merging
 use Rattle.slips.proofs.pass.merge_log.Given as goal
 
-abbrev pub invariant-loop-start : goal.invariant-loop-start
-invariant-loop-start l = merging.MergingLog l.log l.b l.initial.slips l.c.at l.n l.slips
+abbrev pub invariant-loop-object : goal.invariant-loop-object
+invariant-loop-object l = merging.MergingLog l.log l.b l.initial.slips l.c.at l.n l.slips
 
-abbrev pub decreases-loop-start : goal.decreases-loop-start
-decreases-loop-start l = length l.log - l.c.at
+abbrev pub decreases-loop-object : goal.decreases-loop-object
+decreases-loop-object l = length l.log - l.c.at
