@@ -17,12 +17,8 @@ fn verdict(log: &[u8], bundle: &[u8], out: &mut [u8]) -> usize
     ensures { Said 0 (verdict_of log.now bundle.now) out.old out.new result }
 {
     match slips::check(log, bundle) {
-        Ok(n) => {
-            if outside(bundle, log.len()) {
-                return put(b"outside\n", out, 0);
-            }
-            accepted_line(n as u64, out, 0)
-        }
+        Ok(_) if outside(bundle, log.len()) => put(b"outside\n", out, 0),
+        Ok(n) => accepted_line(n as u64, out, 0),
         Err(refusal) => refused_line(refusal.number() as u64, refusal.place() as u64, out, 0),
     }
 }
