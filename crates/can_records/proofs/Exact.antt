@@ -12,7 +12,7 @@ use Rattle.can.specs.declared.message_two.MessageTwo.{MessageTwo}
 use Rattle.can.specs.declared.fd_message.FdMessage.{FdMessage}
 use Rattle.headers.specs.Types.{can_message, overload, statistic, message_two, fd_message}
 use Rattle.objects.specs.Items.{known, Stands}
-use Rattle.outcomes.specs.declared.ReadAnswer.TheVariants as told
+use Rattle.outcomes.specs.Answers as told
 use Rattle.outcomes.specs.Reads.{look_at, record_at}
 use Rattle.outcomes.proofs.Reading.{read_exact}
 

@@ -5,20 +5,13 @@ ghost use Rattle.objects.specs.Items.{known};
 ghost use Rattle.outcomes.specs.Reads.{record_in, Reads};
 ghost use Rattle.outcomes.specs.Writes.{Outcome};
 
+use headers::Refusal;
 use objects::Cursor;
-use outcomes::{ReadAnswer, Written};
+use outcomes::Read;
 
 const KIND: u32 = headers::CAN_FD_MESSAGE;
 
 const BODY: usize = 88;
-
-// What a read is told, the next cursor, and the record: zeros but where it is told of one.
-#[derive(Clone, Copy)]
-pub struct FdMessageRead {
-    pub told: ReadAnswer,
-    pub next: Cursor,
-    pub value: can::FdMessage,
-}
 
 // The CAN FD message that an object's bytes are: zeros where they are too few.
 pub fn fd_message_in(o: &[u8]) -> can::FdMessage
@@ -31,26 +24,25 @@ pub fn fd_message_in(o: &[u8]) -> can::FdMessage
 }
 
 // The CAN FD message at the cursor.
-pub fn read_fd_message(log: &[u8], c: Cursor) -> FdMessageRead
+pub fn read_fd_message(log: &[u8], c: Cursor) -> Read<can::FdMessage>
     ensures { Reads fd_message log.now c.at result.told result.next result.value }
 {
     let l = outcomes::look(log, c, KIND);
-    let value = fd_message_in(outcomes::cut(log, l));
-    let told = l.told;
-    let next = l.next;
-    FdMessageRead { told, next, value }
+    let value = fd_message_in(outcomes::cut(log, &l));
+    Read {
+        told: l.told,
+        next: l.next,
+        value,
+    }
 }
 
 // Writes a CAN FD message with its padding to the front of `out`.
-pub fn write_fd_message(r: can::FdMessage, out: &mut [u8]) -> Written
+pub fn write_fd_message(r: can::FdMessage, out: &mut [u8]) -> Result<usize, Refusal>
     ensures { Outcome (known fd_message r) result out.old out.new }
 {
     let h = r.header;
     let valid = can::valid_ok(r.valid_bytes);
-    let number = outcomes::begin(out, KIND, h, valid, BODY);
-    if number != 0 {
-        return Written::Refused { number, place: 0 };
-    }
+    outcomes::begin(out, KIND, h, valid, BODY)?;
     can::put_fd_message(out, headers::length(h), r);
-    outcomes::pad(out, headers::size(h, BODY))
+    Ok(outcomes::pad(out, headers::size(h, BODY)))
 }

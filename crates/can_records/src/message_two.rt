@@ -5,20 +5,13 @@ ghost use Rattle.objects.specs.Items.{known};
 ghost use Rattle.outcomes.specs.Reads.{record_in, Reads};
 ghost use Rattle.outcomes.specs.Writes.{Outcome};
 
+use headers::Refusal;
 use objects::Cursor;
-use outcomes::{ReadAnswer, Written};
+use outcomes::Read;
 
 const KIND: u32 = headers::CAN_MESSAGE_TWO;
 
 const BODY: usize = 24;
-
-// What a read is told, the next cursor, and the record: zeros but where it is told of one.
-#[derive(Clone, Copy)]
-pub struct MessageTwoRead {
-    pub told: ReadAnswer,
-    pub next: Cursor,
-    pub value: can::MessageTwo,
-}
 
 // The CAN message 2 that an object's bytes are: zeros where they are too few.
 pub fn message_two_in(o: &[u8]) -> can::MessageTwo
@@ -31,26 +24,25 @@ pub fn message_two_in(o: &[u8]) -> can::MessageTwo
 }
 
 // The message 2 at the cursor.
-pub fn read_message_two(log: &[u8], c: Cursor) -> MessageTwoRead
+pub fn read_message_two(log: &[u8], c: Cursor) -> Read<can::MessageTwo>
     ensures { Reads message_two log.now c.at result.told result.next result.value }
 {
     let l = outcomes::look(log, c, KIND);
-    let value = message_two_in(outcomes::cut(log, l));
-    let told = l.told;
-    let next = l.next;
-    MessageTwoRead { told, next, value }
+    let value = message_two_in(outcomes::cut(log, &l));
+    Read {
+        told: l.told,
+        next: l.next,
+        value,
+    }
 }
 
 // Writes a message 2 with its padding to the front of `out`.
-pub fn write_message_two(r: can::MessageTwo, out: &mut [u8]) -> Written
+pub fn write_message_two(r: can::MessageTwo, out: &mut [u8]) -> Result<usize, Refusal>
     ensures { Outcome (known message_two r) result out.old out.new }
 {
     let message = r.message;
     let h = message.header;
-    let number = outcomes::begin(out, KIND, h, true, BODY);
-    if number != 0 {
-        return Written::Refused { number, place: 0 };
-    }
+    outcomes::begin(out, KIND, h, true, BODY)?;
     can::put_message_two(out, headers::length(h), r);
-    outcomes::pad(out, headers::size(h, BODY))
+    Ok(outcomes::pad(out, headers::size(h, BODY)))
 }

@@ -5,20 +5,13 @@ ghost use Rattle.objects.specs.Items.{known};
 ghost use Rattle.outcomes.specs.Reads.{record_in, Reads};
 ghost use Rattle.outcomes.specs.Writes.{Outcome};
 
+use headers::Refusal;
 use objects::Cursor;
-use outcomes::{ReadAnswer, Written};
+use outcomes::Read;
 
 const KIND: u32 = headers::CAN_OVERLOAD;
 
 const BODY: usize = 4;
-
-// What a read is told, the next cursor, and the record: zeros but where it is told of one.
-#[derive(Clone, Copy)]
-pub struct OverloadRead {
-    pub told: ReadAnswer,
-    pub next: Cursor,
-    pub value: can::Overload,
-}
 
 // The overload that an object's bytes are: zeros where they are too few.
 pub fn overload_in(o: &[u8]) -> can::Overload
@@ -31,25 +24,24 @@ pub fn overload_in(o: &[u8]) -> can::Overload
 }
 
 // The overload at the cursor.
-pub fn read_overload(log: &[u8], c: Cursor) -> OverloadRead
+pub fn read_overload(log: &[u8], c: Cursor) -> Read<can::Overload>
     ensures { Reads overload log.now c.at result.told result.next result.value }
 {
     let l = outcomes::look(log, c, KIND);
-    let value = overload_in(outcomes::cut(log, l));
-    let told = l.told;
-    let next = l.next;
-    OverloadRead { told, next, value }
+    let value = overload_in(outcomes::cut(log, &l));
+    Read {
+        told: l.told,
+        next: l.next,
+        value,
+    }
 }
 
 // Writes an overload with its padding to the front of `out`.
-pub fn write_overload(r: can::Overload, out: &mut [u8]) -> Written
+pub fn write_overload(r: can::Overload, out: &mut [u8]) -> Result<usize, Refusal>
     ensures { Outcome (known overload r) result out.old out.new }
 {
     let h = r.header;
-    let number = outcomes::begin(out, KIND, h, true, BODY);
-    if number != 0 {
-        return Written::Refused { number, place: 0 };
-    }
+    outcomes::begin(out, KIND, h, true, BODY)?;
     can::put_overload(out, headers::length(h), r);
-    outcomes::pad(out, headers::size(h, BODY))
+    Ok(outcomes::pad(out, headers::size(h, BODY)))
 }

@@ -5,20 +5,13 @@ ghost use Rattle.objects.specs.Items.{known};
 ghost use Rattle.outcomes.specs.Reads.{record_in, Reads};
 ghost use Rattle.outcomes.specs.Writes.{Outcome};
 
+use headers::Refusal;
 use objects::Cursor;
-use outcomes::{ReadAnswer, Written};
+use outcomes::Read;
 
 const KIND: u32 = headers::CAN_STATISTIC;
 
 const BODY: usize = 28;
-
-// What a read is told, the next cursor, and the record: zeros but where it is told of one.
-#[derive(Clone, Copy)]
-pub struct StatisticRead {
-    pub told: ReadAnswer,
-    pub next: Cursor,
-    pub value: can::Statistic,
-}
 
 // The statistic that an object's bytes are: zeros where they are too few.
 pub fn statistic_in(o: &[u8]) -> can::Statistic
@@ -31,25 +24,24 @@ pub fn statistic_in(o: &[u8]) -> can::Statistic
 }
 
 // The statistic at the cursor.
-pub fn read_statistic(log: &[u8], c: Cursor) -> StatisticRead
+pub fn read_statistic(log: &[u8], c: Cursor) -> Read<can::Statistic>
     ensures { Reads statistic log.now c.at result.told result.next result.value }
 {
     let l = outcomes::look(log, c, KIND);
-    let value = statistic_in(outcomes::cut(log, l));
-    let told = l.told;
-    let next = l.next;
-    StatisticRead { told, next, value }
+    let value = statistic_in(outcomes::cut(log, &l));
+    Read {
+        told: l.told,
+        next: l.next,
+        value,
+    }
 }
 
 // Writes a statistic with its padding to the front of `out`.
-pub fn write_statistic(r: can::Statistic, out: &mut [u8]) -> Written
+pub fn write_statistic(r: can::Statistic, out: &mut [u8]) -> Result<usize, Refusal>
     ensures { Outcome (known statistic r) result out.old out.new }
 {
     let h = r.header;
-    let number = outcomes::begin(out, KIND, h, true, BODY);
-    if number != 0 {
-        return Written::Refused { number, place: 0 };
-    }
+    outcomes::begin(out, KIND, h, true, BODY)?;
     can::put_statistic(out, headers::length(h), r);
-    outcomes::pad(out, headers::size(h, BODY))
+    Ok(outcomes::pad(out, headers::size(h, BODY)))
 }

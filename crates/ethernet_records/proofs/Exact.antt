@@ -8,7 +8,7 @@ use Rattle.fields.specs.Numbers.{Bytes}
 use Rattle.ethernet.specs.declared.status.Status.{Status}
 use Rattle.headers.specs.Types.{ethernet_status}
 use Rattle.objects.specs.Items.{known, Stands}
-use Rattle.outcomes.specs.declared.ReadAnswer.TheVariants as told
+use Rattle.outcomes.specs.Answers as told
 use Rattle.outcomes.specs.Reads.{look_at, record_at}
 use Rattle.outcomes.proofs.Reading.{read_exact}
 

@@ -17,7 +17,7 @@ use Rattle.objects.specs.Views.{frame_at}
 use Rattle.objects.proofs.KindLaws.{viewed}
 use Rattle.objects.proofs.Standing.{item_object}
 use Rattle.objects.proofs.ViewLaws.{object_here}
-use Rattle.outcomes.specs.declared.ReadAnswer.TheVariants as told
+use Rattle.outcomes.specs.Answers as told
 use Rattle.outcomes.specs.Reads.{look_at, record_at}
 use Rattle.outcomes.proofs.Reading.{read_stands, read_exact}
 use Rattle.ethernet_records.specs.Framed.{framed, frame_bytes, Gives}

@@ -6,7 +6,7 @@ use Rattle.ethernet.specs.Fields.{structure_length, Framed}
 use Rattle.headers.specs.Types.{Kind, number_of}
 use Rattle.objects.specs.Kinds.{format_of, Record}
 use Rattle.objects.specs.Views.{frame_at}
-use Rattle.outcomes.specs.declared.ReadAnswer.TheVariants as told
+use Rattle.outcomes.specs.Answers as told
 use Rattle.outcomes.specs.Reads.{look_at, record_at}
 
 -- a record and its frame

@@ -8,21 +8,13 @@ ghost use Rattle.outcomes.specs.Writes.{Outcome};
 ghost use Rattle.ethernet_records.specs.Framed.{framed};
 
 use ethernet::{Frame, FrameError};
+use headers::Refusal;
 use objects::Cursor;
-use outcomes::{ReadAnswer, Written};
+use outcomes::Read;
 
 const KIND: u32 = headers::ETHERNET_ERROR;
 
 const FORWARDED: u32 = headers::FORWARDED_ERROR;
-
-// What a read is told, the next cursor, and the record: zeros but where it is told of one. The frame's bytes are
-// `objects::frame` at the same cursor.
-#[derive(Clone, Copy)]
-pub struct ErrorRead {
-    pub told: ReadAnswer,
-    pub next: Cursor,
-    pub value: FrameError,
-}
 
 // The error, or forwarded error, that an object's bytes are: zeros where they are too few. `bytes_in` gives the frame's
 // bytes.
@@ -36,33 +28,35 @@ pub fn error_in(o: &[u8]) -> FrameError
 }
 
 // The error at the cursor, of either type.
-fn read_as(kind: u32, log: &[u8], c: Cursor) -> ErrorRead
+fn read_as(kind: u32, log: &[u8], c: Cursor) -> Read<FrameError>
     ensures { (kind ≡ number_of ethernet_error → ReadsAs ethernet_error (λ f. f.value) log.now c.at result.told result.next result.value)
         × (kind ≡ number_of forwarded_error → ReadsAs forwarded_error (λ f. f.value) log.now c.at result.told result.next result.value) }
 {
     let l = outcomes::look(log, c, kind);
-    let value = error_in(outcomes::cut(log, l));
-    let told = l.told;
-    let next = l.next;
-    ErrorRead { told, next, value }
+    let value = error_in(outcomes::cut(log, &l));
+    Read {
+        told: l.told,
+        next: l.next,
+        value,
+    }
 }
 
-// The error at the cursor.
-pub fn read_error(log: &[u8], c: Cursor) -> ErrorRead
+// The error at the cursor; the frame's bytes are `objects::frame` there.
+pub fn read_error(log: &[u8], c: Cursor) -> Read<FrameError>
     ensures { ReadsAs ethernet_error (λ f. f.value) log.now c.at result.told result.next result.value }
 {
     read_as(KIND, log, c)
 }
 
-// The forwarded error at the cursor.
-pub fn read_forwarded_error(log: &[u8], c: Cursor) -> ErrorRead
+// The forwarded error at the cursor; the frame's bytes are `objects::frame` there.
+pub fn read_forwarded_error(log: &[u8], c: Cursor) -> Read<FrameError>
     ensures { ReadsAs forwarded_error (λ f. f.value) log.now c.at result.told result.next result.value }
 {
     read_as(FORWARDED, log, c)
 }
 
 // Writes a record of either type.
-fn write_as(kind: u32, e: FrameError, lent: &[u8], out: &mut [u8]) -> Written
+fn write_as(kind: u32, e: FrameError, lent: &[u8], out: &mut [u8]) -> Result<usize, Refusal>
     requires { (kind ≡ 122) ⊎ (kind ≡ 123) }
     ensures { (kind ≡ 122 → Outcome (known ethernet_error (framed e lent.now)) result out.old out.new)
         × (kind ≡ 123 → Outcome (known forwarded_error (framed e lent.now)) result out.old out.new) }
@@ -70,23 +64,20 @@ fn write_as(kind: u32, e: FrameError, lent: &[u8], out: &mut [u8]) -> Written
     let f = e.frame;
     let h = f.header;
     let n = Frame::LENGTH + lent.len();
-    let number = outcomes::begin(out, kind, h, true, n);
-    if number != 0 {
-        return Written::Refused { number, place: 0 };
-    }
+    outcomes::begin(out, kind, h, true, n)?;
     ethernet::put_error(out, headers::length(h), e, lent);
-    outcomes::pad(out, headers::size(h, n))
+    Ok(outcomes::pad(out, headers::size(h, n)))
 }
 
 // Writes an error, whose frame is lent, with its padding to the front of `out`.
-pub fn write_error(e: FrameError, lent: &[u8], out: &mut [u8]) -> Written
+pub fn write_error(e: FrameError, lent: &[u8], out: &mut [u8]) -> Result<usize, Refusal>
     ensures { Outcome (known ethernet_error (framed e lent.now)) result out.old out.new }
 {
     write_as(KIND, e, lent, out)
 }
 
 // Writes a forwarded error, whose frame is lent, with its padding to the front of `out`.
-pub fn write_forwarded_error(e: FrameError, lent: &[u8], out: &mut [u8]) -> Written
+pub fn write_forwarded_error(e: FrameError, lent: &[u8], out: &mut [u8]) -> Result<usize, Refusal>
     ensures { Outcome (known forwarded_error (framed e lent.now)) result out.old out.new }
 {
     write_as(FORWARDED, e, lent, out)

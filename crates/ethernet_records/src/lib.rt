@@ -6,10 +6,9 @@ mod frame_error;
 mod status;
 
 pub use frame::{
-    FrameRead, bytes_in, frame_in, read_forwarded_frame, read_frame, write_forwarded_frame,
-    write_frame,
+    bytes_in, frame_in, read_forwarded_frame, read_frame, write_forwarded_frame, write_frame,
 };
 pub use frame_error::{
-    ErrorRead, error_in, read_error, read_forwarded_error, write_error, write_forwarded_error,
+    error_in, read_error, read_forwarded_error, write_error, write_forwarded_error,
 };
-pub use status::{StatusRead, read_status, status_in, write_status};
+pub use status::{read_status, status_in, write_status};

@@ -5,20 +5,13 @@ ghost use Rattle.objects.specs.Items.{known};
 ghost use Rattle.outcomes.specs.Reads.{record_in, Reads};
 ghost use Rattle.outcomes.specs.Writes.{Outcome};
 
+use headers::Refusal;
 use objects::Cursor;
-use outcomes::{ReadAnswer, Written};
+use outcomes::Read;
 
 const KIND: u32 = headers::ETHERNET_STATUS;
 
 const BODY: usize = 16;
-
-// What a read is told, the next cursor, and the record: zeros but where it is told of one.
-#[derive(Clone, Copy)]
-pub struct StatusRead {
-    pub told: ReadAnswer,
-    pub next: Cursor,
-    pub value: ethernet::Status,
-}
 
 // The status that an object's bytes are: zeros where they are too few.
 pub fn status_in(o: &[u8]) -> ethernet::Status
@@ -31,25 +24,24 @@ pub fn status_in(o: &[u8]) -> ethernet::Status
 }
 
 // The status at the cursor.
-pub fn read_status(log: &[u8], c: Cursor) -> StatusRead
+pub fn read_status(log: &[u8], c: Cursor) -> Read<ethernet::Status>
     ensures { Reads ethernet_status log.now c.at result.told result.next result.value }
 {
     let l = outcomes::look(log, c, KIND);
-    let value = status_in(outcomes::cut(log, l));
-    let told = l.told;
-    let next = l.next;
-    StatusRead { told, next, value }
+    let value = status_in(outcomes::cut(log, &l));
+    Read {
+        told: l.told,
+        next: l.next,
+        value,
+    }
 }
 
 // Writes a status with its padding to the front of `out`.
-pub fn write_status(r: ethernet::Status, out: &mut [u8]) -> Written
+pub fn write_status(r: ethernet::Status, out: &mut [u8]) -> Result<usize, Refusal>
     ensures { Outcome (known ethernet_status r) result out.old out.new }
 {
     let h = r.header;
-    let number = outcomes::begin(out, KIND, h, true, BODY);
-    if number != 0 {
-        return Written::Refused { number, place: 0 };
-    }
+    outcomes::begin(out, KIND, h, true, BODY)?;
     ethernet::put_status(out, headers::length(h), r);
-    outcomes::pad(out, headers::size(h, BODY))
+    Ok(outcomes::pad(out, headers::size(h, BODY)))
 }

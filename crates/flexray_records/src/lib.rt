@@ -3,4 +3,4 @@
 
 mod receive;
 
-pub use receive::{ReceiveRead, read_receive, receive_in, write_receive};
+pub use receive::{read_receive, receive_in, write_receive};

@@ -5,20 +5,13 @@ ghost use Rattle.objects.specs.Items.{known};
 ghost use Rattle.outcomes.specs.Reads.{record_in, Reads};
 ghost use Rattle.outcomes.specs.Writes.{Outcome};
 
+use headers::Refusal;
 use objects::Cursor;
-use outcomes::{ReadAnswer, Written};
+use outcomes::Read;
 
 const KIND: u32 = headers::FLEXRAY_RECEIVE;
 
 const BODY: usize = 298;
-
-// What a read is told, the next cursor, and the record: zeros but where it is told of one.
-#[derive(Clone, Copy)]
-pub struct ReceiveRead {
-    pub told: ReadAnswer,
-    pub next: Cursor,
-    pub value: flexray::Receive,
-}
 
 // The FlexRay receive that an object's bytes are: zeros where they are too few.
 pub fn receive_in(o: &[u8]) -> flexray::Receive
@@ -31,26 +24,25 @@ pub fn receive_in(o: &[u8]) -> flexray::Receive
 }
 
 // The FlexRay receive at the cursor.
-pub fn read_receive(log: &[u8], c: Cursor) -> ReceiveRead
+pub fn read_receive(log: &[u8], c: Cursor) -> Read<flexray::Receive>
     ensures { Reads receive log.now c.at result.told result.next result.value }
 {
     let l = outcomes::look(log, c, KIND);
-    let value = receive_in(outcomes::cut(log, l));
-    let told = l.told;
-    let next = l.next;
-    ReceiveRead { told, next, value }
+    let value = receive_in(outcomes::cut(log, &l));
+    Read {
+        told: l.told,
+        next: l.next,
+        value,
+    }
 }
 
 // Writes a FlexRay receive with its padding to the front of `out`.
-pub fn write_receive(r: flexray::Receive, out: &mut [u8]) -> Written
+pub fn write_receive(r: flexray::Receive, out: &mut [u8]) -> Result<usize, Refusal>
     ensures { Outcome (known receive r) result out.old out.new }
 {
     let h = r.header;
     let counts = flexray::counts_ok(r.total, r.stored);
-    let number = outcomes::begin(out, KIND, h, counts, BODY);
-    if number != 0 {
-        return Written::Refused { number, place: 0 };
-    }
+    outcomes::begin(out, KIND, h, counts, BODY)?;
     flexray::put_receive(out, headers::length(h), r);
-    outcomes::pad(out, headers::size(h, BODY))
+    Ok(outcomes::pad(out, headers::size(h, BODY)))
 }

@@ -9,7 +9,7 @@ use Rattle.lin.specs.declared.message.Message.{Message}
 use Rattle.lin.specs.declared.wake_up.WakeUp.{WakeUp}
 use Rattle.headers.specs.Types.{lin_message, wake_up}
 use Rattle.objects.specs.Items.{known, Stands}
-use Rattle.outcomes.specs.declared.ReadAnswer.TheVariants as told
+use Rattle.outcomes.specs.Answers as told
 use Rattle.outcomes.specs.Reads.{look_at, record_at}
 use Rattle.outcomes.proofs.Reading.{read_exact}
 

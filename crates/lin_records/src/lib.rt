@@ -4,5 +4,5 @@
 mod message;
 mod wake_up;
 
-pub use message::{MessageRead, message_in, read_message, write_message};
-pub use wake_up::{WakeUpRead, read_wake_up, wake_up_in, write_wake_up};
+pub use message::{message_in, read_message, write_message};
+pub use wake_up::{read_wake_up, wake_up_in, write_wake_up};

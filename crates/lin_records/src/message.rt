@@ -5,21 +5,14 @@ ghost use Rattle.objects.specs.Items.{known};
 ghost use Rattle.outcomes.specs.Reads.{record_in, Reads};
 ghost use Rattle.outcomes.specs.Writes.{Outcome};
 
+use headers::Refusal;
 use objects::Cursor;
-use outcomes::{ReadAnswer, Written};
+use outcomes::Read;
 
 const KIND: u32 = headers::LIN_MESSAGE;
 
 // Without a tail.
 const BODY: usize = 132;
-
-// What a read is told, the next cursor, and the record: zeros but where it is told of one.
-#[derive(Clone, Copy)]
-pub struct MessageRead {
-    pub told: ReadAnswer,
-    pub next: Cursor,
-    pub value: lin::Message,
-}
 
 // The LIN message that an object's bytes are: zeros where they are too few.
 pub fn message_in(o: &[u8]) -> lin::Message
@@ -32,28 +25,27 @@ pub fn message_in(o: &[u8]) -> lin::Message
 }
 
 // The LIN message at the cursor.
-pub fn read_message(log: &[u8], c: Cursor) -> MessageRead
+pub fn read_message(log: &[u8], c: Cursor) -> Read<lin::Message>
     ensures { Reads lin_message log.now c.at result.told result.next result.value }
 {
     let l = outcomes::look(log, c, KIND);
-    let value = message_in(outcomes::cut(log, l));
-    let told = l.told;
-    let next = l.next;
-    MessageRead { told, next, value }
+    let value = message_in(outcomes::cut(log, &l));
+    Read {
+        told: l.told,
+        next: l.next,
+        value,
+    }
 }
 
 // Writes a LIN message with its padding to the front of `out`.
-pub fn write_message(r: lin::Message, out: &mut [u8]) -> Written
+pub fn write_message(r: lin::Message, out: &mut [u8]) -> Result<usize, Refusal>
     ensures { Outcome (known lin_message r) result out.old out.new }
 {
     let h = r.header;
     let tail = r.tail;
     let n = BODY + lin::tail_length(tail);
     let rates = lin::tail_ok(tail);
-    let number = outcomes::begin(out, KIND, h, rates, n);
-    if number != 0 {
-        return Written::Refused { number, place: 0 };
-    }
+    outcomes::begin(out, KIND, h, rates, n)?;
     lin::put_message(out, headers::length(h), r);
-    outcomes::pad(out, headers::size(h, n))
+    Ok(outcomes::pad(out, headers::size(h, n)))
 }

@@ -5,20 +5,13 @@ ghost use Rattle.objects.specs.Items.{known};
 ghost use Rattle.outcomes.specs.Reads.{record_in, Reads};
 ghost use Rattle.outcomes.specs.Writes.{Outcome};
 
+use headers::Refusal;
 use objects::Cursor;
-use outcomes::{ReadAnswer, Written};
+use outcomes::Read;
 
 const KIND: u32 = headers::LIN_WAKE_UP;
 
 const BODY: usize = 20;
-
-// What a read is told, the next cursor, and the record: zeros but where it is told of one.
-#[derive(Clone, Copy)]
-pub struct WakeUpRead {
-    pub told: ReadAnswer,
-    pub next: Cursor,
-    pub value: lin::WakeUp,
-}
 
 // The wake-up that an object's bytes are: zeros where they are too few.
 pub fn wake_up_in(o: &[u8]) -> lin::WakeUp
@@ -31,25 +24,24 @@ pub fn wake_up_in(o: &[u8]) -> lin::WakeUp
 }
 
 // The wake-up at the cursor.
-pub fn read_wake_up(log: &[u8], c: Cursor) -> WakeUpRead
+pub fn read_wake_up(log: &[u8], c: Cursor) -> Read<lin::WakeUp>
     ensures { Reads wake_up log.now c.at result.told result.next result.value }
 {
     let l = outcomes::look(log, c, KIND);
-    let value = wake_up_in(outcomes::cut(log, l));
-    let told = l.told;
-    let next = l.next;
-    WakeUpRead { told, next, value }
+    let value = wake_up_in(outcomes::cut(log, &l));
+    Read {
+        told: l.told,
+        next: l.next,
+        value,
+    }
 }
 
 // Writes a wake-up with its padding to the front of `out`.
-pub fn write_wake_up(r: lin::WakeUp, out: &mut [u8]) -> Written
+pub fn write_wake_up(r: lin::WakeUp, out: &mut [u8]) -> Result<usize, Refusal>
     ensures { Outcome (known wake_up r) result out.old out.new }
 {
     let h = r.header;
-    let number = outcomes::begin(out, KIND, h, true, BODY);
-    if number != 0 {
-        return Written::Refused { number, place: 0 };
-    }
+    outcomes::begin(out, KIND, h, true, BODY)?;
     lin::put_wake_up(out, headers::length(h), r);
-    outcomes::pad(out, headers::size(h, BODY))
+    Ok(outcomes::pad(out, headers::size(h, BODY)))
 }

@@ -1,4 +1,3 @@
-pub mod Slices
 pub mod Turns
 pub mod Laying
 pub mod Places

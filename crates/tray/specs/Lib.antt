@@ -1,4 +1,4 @@
+pub mod Answers
 pub mod Tray
-pub mod Under
 pub mod Claims
 pub mod Replies

@@ -15,7 +15,7 @@ use Rattle.lin.specs.Tables.{message_slots}
 use Rattle.lin.proofs.TailLaws.{tail_short}
 use Rattle.lin.proofs.SizeLaws.{message_length}
 use Rattle.lin.proofs.KnownLaws.{message_known}
-use Rattle.outcomes.proofs.Writing.{taken, refuses, body_room, pad_room, ends}
+use Rattle.outcomes.proofs.Writing.{allowed, refuses, body_room, pad_room, ends}
 use Rattle.lin_records.proofs.message.write_message.Goals as goal
 
 -- the body's length, as code adds it up
@@ -27,34 +27,34 @@ overflow_add-n c =
     let e : c.tail_length-n.result ≤ 20 = rw c.tail_length-n.ensures (tail_short c.args.r.tail) in
     search rules
 
-pub returns-then-number-ne0 : goal.returns-then-number-ne0
-returns-then-number-ne0 c =
+pub returns-in_err-begin : goal.returns-in_err-begin
+returns-in_err-begin c =
     let r = c.args.r in
-    refuses lin_message r c.begin-number.ensures refl (c.tail_ok-rates.ensures ∙ sym (and-true _)) (added r c.tail_length-n.ensures) c.if-number-ne0.true
+    refuses lin_message r c.begin.ensures refl (c.tail_ok-rates.ensures ∙ sym (and-true _)) (added r c.tail_length-n.ensures) c.in_err-begin.was c.from_residual.ensures.1
 
 pub put_message-requires : goal.put_message-requires
 put_message-requires c =
     let r = c.args.r in
-    let b = c.begin-number.ensures in
-    let z = c.if-number-ne0.false in
+    let b = c.begin.ensures in
+    let z = c.in_ok-begin.was in
     let k = c.tail_ok-rates.ensures in
     let n = c.tail_length-n.ensures in
-    (omega (arith, n, body_room lin_message r b refl (k ∙ sym (and-true _)) (added r n) z c.length.ensures), sym k ∙ (taken b.number z).content)
+    (omega (arith, n, body_room lin_message r b refl (k ∙ sym (and-true _)) (added r n) z c.length.ensures), sym k ∙ (allowed b z).content)
 
 pub pad-requires : goal.pad-requires
 pad-requires c =
     let r = c.args.r in
     let k = c.tail_ok-rates.ensures ∙ sym (and-true _) in
-    omega (arith, pad_room lin_message r c.begin-number.ensures refl k (added r c.tail_length-n.ensures) c.if-number-ne0.false c.size.ensures)
+    omega (arith, pad_room lin_message r c.begin.ensures refl k (added r c.tail_length-n.ensures) c.in_ok-begin.was c.size.ensures)
 
 pub returns : goal.returns
 returns c =
     let r = c.args.r in
-    let b = c.begin-number.ensures in
-    let z = c.if-number-ne0.false in
+    let b = c.begin.ensures in
+    let z = c.in_ok-begin.was in
     let k = c.tail_ok-rates.ensures in
-    let v = message_known r c.well_formed.0 (taken b.number z).unit (sym k ∙ (taken b.number z).content) in
+    let v = message_known r c.well_formed.0 (allowed b z).unit (sym k ∙ (allowed b z).content) in
     ends lin_message r b refl (k ∙ sym (and-true _)) (added r c.tail_length-n.ensures) z v c.length.ensures c.size.ensures c.put_message.ensures c.pad.ensures
 
-pub begin-number-requires : goal.begin-number-requires
-begin-number-requires c = list.known lin_message
+pub begin-requires : goal.begin-requires
+begin-requires c = list.known lin_message
