@@ -7,7 +7,7 @@ use Rattle.std.proofs.lemmas.List.FromFn.{fill_by_all}
 use Rattle.asc_lines.specs.declared.told.Frame.{Frame}
 use Rattle.asc_lines.specs.declared.told.Counts.{Counts}
 use Rattle.asc_lines.specs.declared.told.Told.{Told}
-use Rattle.asc_lines.specs.Told.{kind_number, kind_frame, kind_counts}
+use Rattle.asc_lines.specs.Told.{body_number, body_frame, body_counts}
 use Rattle.asc.specs.Replies.{bit, head_numbers, count_numbers, told_numbers}
 
 abbrev each : List ℕ → List ℕ → List ℕ
@@ -17,7 +17,7 @@ each b l =
 eight : (b : List ℕ) → length b ≡ 8 → each b [] ≡ b
 eight b e = sym (fill_by_all (λ k. get_or b k 0) b 8 0 e (λ k h. refl))
 
-pub numbers_are : (t : Told) {n x y z : ℕ} {f : Frame} {c : Counts} → n ≡ kind_number t.kind → f ≡ kind_frame t.kind → c ≡ kind_counts t.kind → length f.bytes ≡ 8
+pub numbers_are : (t : Told) {n x y z : ℕ} {f : Frame} {c : Counts} → n ≡ body_number t.body → f ≡ body_frame t.body → c ≡ body_counts t.body → length f.bytes ≡ 8
     → x ≡ bit f.extended → y ≡ bit f.sent → z ≡ bit f.remote
     → (n ∷ head_numbers t.head) ++ (f.id ∷ x ∷ y ∷ z ∷ f.dlc ∷ each f.bytes (count_numbers c)) ≡ told_numbers t
 unfolding told_numbers

@@ -15,7 +15,7 @@ use Rattle.headers.specs.Form.{body_fault}
 use Rattle.headers.specs.Types.{number_of, can_message, overload, statistic}
 use Rattle.objects.specs.Kinds.{format_of}
 use Rattle.objects.specs.Faults.{body_fault_of, inner_fault_of}
-use Rattle.objects.proofs.KindLaws.{arm, arm_free, listed_inner, unlisted_inner}
+use Rattle.objects.proofs.KindLaws.{arm, arm_free, listed_inner}
 use Rattle.headers.proofs.Heads.{passes}
 use Rattle.headers.proofs.Bodies.{object_held, sized_least}
 use Rattle.headers.proofs.TypeKinds.{known}
@@ -66,10 +66,6 @@ module _ (o : List ℕ) (p : Headed o) where
   inner_decides : {b : Bool} → eqb (inner_fault_of (kind_at o) o) 0 ≡ b → cond b (event_as (kind_at o) o) none ≡ event_in o
   unfolding event_in whole
   inner_decides e = rw (le-leb head_size (length o) p.long, eq-eqb (head_fault o) 0 p.head, eq-eqb (size_at o) (length o) p.size, e)
-
-  -- which a foreign object does not meet
-  foreign_free : listed (row_of (kind_at o)) ≡ false → event_as (kind_at o) o ≡ event_in o
-  foreign_free l = inner_decides (ap (λ (n : ℕ). eqb n 0) (sym (unlisted_inner (kind_at o) o l)))
 
   module _ (l : listed (row_of (kind_at o)) ≡ true) where
     -- a listed object's header is there

@@ -5,7 +5,7 @@ use Rattle.asc_lines.specs.declared.told.Head.{Head}
 use Rattle.asc_lines.specs.declared.told.Frame.{Frame}
 use Rattle.asc_lines.specs.declared.told.Counts.{Counts}
 use Rattle.asc_lines.specs.declared.told.Told.{Told}
-use Rattle.asc_lines.specs.Told.{kind_number, kind_frame, kind_counts}
+use Rattle.asc_lines.specs.Told.{body_number, body_frame, body_counts}
 use Rattle.headers.specs.Refused.{Refused}
 
 -- the line's bytes
@@ -30,10 +30,10 @@ count_numbers c =
 
 unfoldable pub told_numbers : Told → List ℕ
 told_numbers t =
-    (kind_number t.kind ∷ head_numbers t.head)
-    ++ frame_numbers (kind_frame t.kind)
-    ++ (kind_frame t.kind).bytes
-    ++ count_numbers (kind_counts t.kind)
+    (body_number t.body ∷ head_numbers t.head)
+    ++ frame_numbers (body_frame t.body)
+    ++ (body_frame t.body).bytes
+    ++ count_numbers (body_counts t.body)
 
 -- 0 where the text is a line, or the refusal's number
 abbrev pub read_number : Result Told Refused → ℕ

@@ -8,11 +8,11 @@ use asc_lines::Told;
 pub fn told_numbers(t: Told) -> [u64; 24]
     ensures { result ≡ told_numbers t }
 {
-    let f = t.kind.frame();
+    let f = t.body.frame();
     let b = f.bytes;
-    let c = t.kind.counts();
+    let c = t.body.counts();
     [
-        t.kind.number() as u64,
+        t.body.number() as u64,
         t.head.seconds,
         t.head.nanos as u64,
         t.head.channel as u64,

@@ -4,7 +4,7 @@ ghost use Rattle.asc.specs.Tells.{head_told, message, overload, statistic};
 ghost use Rattle.asc.specs.Writes.{one, LineOutcome, Put, Copied};
 
 use crate::tells::{counts_told, frame_told, head_told};
-use asc_lines::{Kind, Told};
+use asc_lines::{Body, Told};
 use headers::{Fault, Header, Refusal};
 
 // Copies a line to the front of a buffer, or refuses with 10.
@@ -19,15 +19,15 @@ fn copy_line(line: &[u8], out: &mut [u8]) -> Result<usize, Refusal>
 }
 
 // Writes the line of what is told at a header's time.
-fn put_told(h: Header, channel: u16, kind: Kind, out: &mut [u8]) -> Result<usize, Refusal>
-    ensures { Put h.unit (record { head = head_told h channel; kind = kind }) result out.old out.new }
+fn put_told(h: Header, channel: u16, body: Body, out: &mut [u8]) -> Result<usize, Refusal>
+    ensures { Put h.unit (record { head = head_told h channel; body = body }) result out.old out.new }
 {
     if !headers::unit_ok(h.unit) {
         return Err(Fault::Unit.at(0));
     }
     let head = head_told(h, channel);
     let mut line = [0u8; 256];
-    let n = asc_lines::put_line(Told { head, kind }, &mut line);
+    let n = asc_lines::put_line(Told { head, body }, &mut line);
     copy_line(&line[n..], out)
 }
 
@@ -35,19 +35,19 @@ fn put_told(h: Header, channel: u16, kind: Kind, out: &mut [u8]) -> Result<usize
 pub fn message_line(r: can::Message, out: &mut [u8]) -> Result<usize, Refusal>
     ensures { LineOutcome (one (message r)) result out.old out.new }
 {
-    put_told(r.header, r.channel, Kind::Message(frame_told(r)), out)
+    put_told(r.header, r.channel, Body::Message(frame_told(r)), out)
 }
 
 // Writes the line of an overload.
 pub fn overload_line(r: can::Overload, out: &mut [u8]) -> Result<usize, Refusal>
     ensures { LineOutcome (one (overload r)) result out.old out.new }
 {
-    put_told(r.header, r.channel, Kind::Overload, out)
+    put_told(r.header, r.channel, Body::Overload, out)
 }
 
 // Writes the line of a statistic.
 pub fn statistic_line(r: can::Statistic, out: &mut [u8]) -> Result<usize, Refusal>
     ensures { LineOutcome (one (statistic r)) result out.old out.new }
 {
-    put_told(r.header, r.channel, Kind::Statistic(counts_told(r)), out)
+    put_told(r.header, r.channel, Body::Statistic(counts_told(r)), out)
 }

@@ -6,8 +6,8 @@ use Rattle.digits.specs.Text.{text, labelled}
 use Rattle.asc_lines.specs.declared.told.Head.{Head}
 use Rattle.asc_lines.specs.declared.told.Frame.{Frame}
 use Rattle.asc_lines.specs.declared.told.Counts.{Counts}
-use Rattle.asc_lines.specs.declared.told.Kind.{Kind}
-use Rattle.asc_lines.specs.declared.told.Kind.TheVariants.{Message, Overload, Statistic}
+use Rattle.asc_lines.specs.declared.told.Body.{Body}
+use Rattle.asc_lines.specs.declared.told.Body.TheVariants.{Message, Overload, Statistic}
 use Rattle.asc_lines.specs.declared.told.Told.{Told}
 use Rattle.asc_lines.specs.Told.{shown}
 
@@ -52,11 +52,11 @@ unfoldable pub counts_of : Counts → List ℕ
 counts_of c = frames_of c ++ labelled (text " E ") c.errors ++ labelled (text " O ") c.overloads ++ load_of c.load
 
 -- what stands behind the channel
-unfoldable pub rest_of : Kind → List ℕ
+unfoldable pub rest_of : Body → List ℕ
 rest_of (Message f) = id_of f ++ frame_of f
 rest_of Overload = text " OverloadFrame"
 rest_of (Statistic c) = counts_of c
 
 -- the line of what is told
 unfoldable pub line_of : Told → List ℕ
-line_of t = head_of t.head ++ rest_of t.kind ++ text "\r\n"
+line_of t = head_of t.head ++ rest_of t.body ++ text "\r\n"

@@ -3,8 +3,8 @@ use Rattle.std.specs.Prelude.{ℕ, min, Bool, false, cond, replicate}
 use Rattle.asc_lines.specs.declared.told.Head.{Head}
 use Rattle.asc_lines.specs.declared.told.Frame.{Frame}
 use Rattle.asc_lines.specs.declared.told.Counts.{Counts}
-use Rattle.asc_lines.specs.declared.told.Kind.{Kind}
-use Rattle.asc_lines.specs.declared.told.Kind.TheVariants.{Message, Overload, Statistic}
+use Rattle.asc_lines.specs.declared.told.Body.{Body}
+use Rattle.asc_lines.specs.declared.told.Body.TheVariants.{Message, Overload, Statistic}
 use Rattle.asc_lines.specs.declared.told.Told.{Told}
 
 unfoldable pub no_frame : Frame
@@ -23,29 +23,29 @@ no_counts =
     }
 
 abbrev pub of_message : Head → Frame → Told
-of_message h f = record { head = h; kind = Message f }
+of_message h f = record { head = h; body = Message f }
 
 abbrev pub of_overload : Head → Told
-of_overload h = record { head = h; kind = Overload }
+of_overload h = record { head = h; body = Overload }
 
 abbrev pub of_statistic : Head → Counts → Told
-of_statistic h c = record { head = h; kind = Statistic c }
+of_statistic h c = record { head = h; body = Statistic c }
 
 -- the object's type; its frame and its counts
-abbrev pub kind_number : Kind → ℕ
-kind_number (Message f) = 1
-kind_number Overload = 3
-kind_number (Statistic c) = 4
+abbrev pub body_number : Body → ℕ
+body_number (Message f) = 1
+body_number Overload = 3
+body_number (Statistic c) = 4
 
-abbrev pub kind_frame : Kind → Frame
-kind_frame (Message f) = f
-kind_frame Overload = no_frame
-kind_frame (Statistic c) = no_frame
+abbrev pub body_frame : Body → Frame
+body_frame (Message f) = f
+body_frame Overload = no_frame
+body_frame (Statistic c) = no_frame
 
-abbrev pub kind_counts : Kind → Counts
-kind_counts (Message f) = no_counts
-kind_counts Overload = no_counts
-kind_counts (Statistic c) = c
+abbrev pub body_counts : Body → Counts
+body_counts (Message f) = no_counts
+body_counts Overload = no_counts
+body_counts (Statistic c) = c
 
 -- how many bytes stand in a message's line: none behind `r`, else the first DLC of them, eight at most
 unfoldable pub shown : Bool → ℕ → ℕ

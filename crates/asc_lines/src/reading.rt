@@ -3,7 +3,7 @@ ghost use Rattle.std.specs.Prelude.{◌≤◌, ◌≡◌};
 ghost use Rattle.asc_lines.specs.Reading.{head_in, head_end, frame_in, load_in, counts_in, possible_time, line_in};
 ghost use Rattle.asc_lines.specs.Reading.{candidate as Reading·candidate};
 
-use crate::told::{Counts, Frame, Head, Kind, Told, shown};
+use crate::told::{Counts, Frame, Head, Body, Told, shown};
 use crate::writing::put_line;
 
 // The head of a text, and the place behind it.
@@ -89,12 +89,12 @@ fn candidate(s: &[u8]) -> Told
     ensures { result ≡ Reading·candidate s.now }
 {
     let h = read_head(s);
-    let kind = match digits::byte(s, h.end + 1) {
-        b'O' => Kind::Overload,
-        b'S' => Kind::Statistic(read_counts(s, h.end)),
-        _ => Kind::Message(read_frame(s, h.end)),
+    let body = match digits::byte(s, h.end + 1) {
+        b'O' => Body::Overload,
+        b'S' => Body::Statistic(read_counts(s, h.end)),
+        _ => Body::Message(read_frame(s, h.end)),
     };
-    Told { head: h.head, kind }
+    Told { head: h.head, body }
 }
 
 // Whether a stamp of 64 bits has this time, in one of the two units.

@@ -1,6 +1,6 @@
 // What a line tells.
 ghost use Rattle.std.specs.Prelude.{◌≤◌, ◌≡◌};
-ghost use Rattle.asc_lines.specs.Told.{kind_number, kind_frame, kind_counts};
+ghost use Rattle.asc_lines.specs.Told.{body_number, body_frame, body_counts};
 ghost use Rattle.asc_lines.specs.Told.{shown as Told·shown};
 
 // The time, as whole seconds and the nanoseconds over, and the channel: every line has them.
@@ -40,7 +40,7 @@ pub struct Counts {
 
 // What stands behind the channel, by the type of the line's object.
 #[derive(Clone, Copy)]
-pub enum Kind {
+pub enum Body {
     Message(Frame),
     Overload,
     Statistic(Counts),
@@ -50,27 +50,27 @@ pub enum Kind {
 #[derive(Clone, Copy)]
 pub struct Told {
     pub head: Head,
-    pub kind: Kind,
+    pub body: Body,
 }
 
-impl Kind {
+impl Body {
     // The object's type.
     pub fn number(self) -> u32
-        ensures { result ≡ kind_number self }
+        ensures { result ≡ body_number self }
     {
         match self {
-            Kind::Message(_) => 1,
-            Kind::Overload => 3,
-            Kind::Statistic(_) => 4,
+            Body::Message(_) => 1,
+            Body::Overload => 3,
+            Body::Statistic(_) => 4,
         }
     }
 
     // The message's frame; zeros where it is none.
     pub fn frame(self) -> Frame
-        ensures { result ≡ kind_frame self }
+        ensures { result ≡ body_frame self }
     {
         match self {
-            Kind::Message(frame) => frame,
+            Body::Message(frame) => frame,
             _ => Frame::default(),
         }
     }
@@ -78,10 +78,10 @@ impl Kind {
     // The statistic's counts; zeros where it is none.
     #[tactic(auto, unfolding(crate::specs::Told::no_counts))]
     pub fn counts(self) -> Counts
-        ensures { result ≡ kind_counts self }
+        ensures { result ≡ body_counts self }
     {
         match self {
-            Kind::Statistic(counts) => counts,
+            Body::Statistic(counts) => counts,
             _ => Counts::default(),
         }
     }

@@ -5,7 +5,7 @@ ghost use Rattle.std.specs.Prelude.{◌+◌, ◌≤◌, length};
 ghost use Rattle.digits.specs.Text.{Said};
 ghost use Rattle.asc_lines.specs.Lines.{head_of, id_of, frame_of, load_of, frames_of, counts_of, rest_of, line_of};
 
-use crate::told::{Counts, Frame, Head, Kind, Told, shown};
+use crate::told::{Counts, Frame, Head, Body, Told, shown};
 
 // `TIME CHANNEL`
 fn put_head(h: Head, out: &mut [u8], end: usize) -> usize
@@ -77,17 +77,17 @@ fn put_counts(c: Counts, out: &mut [u8], end: usize) -> usize
 }
 
 // What stands behind the channel.
-fn put_rest(kind: Kind, out: &mut [u8], end: usize) -> usize
+fn put_rest(body: Body, out: &mut [u8], end: usize) -> usize
     requires { (178 ≤ end) × (end ≤ length out.old) }
-    ensures { Said result (rest_of kind) out.old out.new end × (end ≤ result + 178) }
+    ensures { Said result (rest_of body) out.old out.new end × (end ≤ result + 178) }
 {
-    match kind {
-        Kind::Message(frame) => {
+    match body {
+        Body::Message(frame) => {
             let a = put_frame(frame, out, end);
             put_id(frame, out, a)
         }
-        Kind::Overload => digits::put(b" OverloadFrame", out, end),
-        Kind::Statistic(counts) => put_counts(counts, out, end),
+        Body::Overload => digits::put(b" OverloadFrame", out, end),
+        Body::Statistic(counts) => put_counts(counts, out, end),
     }
 }
 
@@ -98,6 +98,6 @@ pub fn put_line(t: Told, out: &mut [u8]) -> usize
 {
     let end = out.len();
     let a = digits::put(b"\r\n", out, end);
-    let b = put_rest(t.kind, out, a);
+    let b = put_rest(t.body, out, a);
     put_head(t.head, out, b)
 }

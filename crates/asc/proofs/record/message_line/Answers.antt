@@ -1,5 +1,5 @@
 -- `asc::record::message_line` meets its contract: the line of what it tells. Assumes nothing.
-use Rattle.asc_lines.specs.declared.told.Kind.TheVariants.{Message}
+use Rattle.asc_lines.specs.declared.told.Body.TheVariants.{Message}
 use Rattle.can.proofs.KnownLaws.{message_known}
 use Rattle.asc.specs.Tells.{head_told, message, tells}
 use Rattle.asc.proofs.Writings.{event_line}
@@ -7,4 +7,4 @@ use Rattle.asc.proofs.record.message_line.Goals as goal
 
 pub returns : goal.returns
 unfolding tells
-returns c = let r = c.args.r in event_line (message r) (λ i. record { head = head_told r.header r.channel; kind = Message (c.frame_told.ensures i) }) (message_known r c.well_formed.0) c.put_told.ensures
+returns c = let r = c.args.r in event_line (message r) (λ i. record { head = head_told r.header r.channel; body = Message (c.frame_told.ensures i) }) (message_known r c.well_formed.0) c.put_told.ensures

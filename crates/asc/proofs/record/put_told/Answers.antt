@@ -14,4 +14,4 @@ returns-then-not-unit_ok c = rw c.at.ensures (unit_refused _ _ (sym c.unit_ok.en
 pub returns : goal.returns
 returns c =
     unit_taken _ _ (sym c.unit_ok.ensures ∙ c.if-not-unit_ok.false)
-    (said_part (256 - c.put_line-n.result) c.put_line-n.ensures refl (omega arith) ∙ ap (λ (d : Head). line_of (record { head = d; kind = c.args.kind })) c.head_told-head.ensures) c.copy_line.ensures
+    (said_part (256 - c.put_line-n.result) c.put_line-n.ensures refl (omega arith) ∙ ap (λ (d : Head). line_of (record { head = d; body = c.args.body })) c.head_told-head.ensures) c.copy_line.ensures

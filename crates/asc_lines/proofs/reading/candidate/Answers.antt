@@ -9,4 +9,4 @@ pub returns : goal.returns
 unfolding candidate
 returns c =
     let e = c.byte.ensures in
-    rw (← c.read_head-h.ensures.0, ← c.read_head-h.ensures.1, ← e) (elim c.match-byte.branch [ in-79 w ↦ rw (w.kind-is, w.in-79.is) | in-83 w ↦ rw (w.kind-is, w.in-83.is, w.read_counts.ensures) | in_default w ↦ rw (w.kind-is, w.read_frame.ensures, ne_eqb c.byte.result 79 (λ e. omega arith), ne_eqb c.byte.result 83 (λ e. omega arith)) ])
+    rw (← c.read_head-h.ensures.0, ← c.read_head-h.ensures.1, ← e) (elim c.match-byte.branch [ in-79 w ↦ rw (w.body-is, w.in-79.is) | in-83 w ↦ rw (w.body-is, w.in-83.is, w.read_counts.ensures) | in_default w ↦ rw (w.body-is, w.read_frame.ensures, ne_eqb c.byte.result 79 (λ e. omega arith), ne_eqb c.byte.result 83 (λ e. omega arith)) ])

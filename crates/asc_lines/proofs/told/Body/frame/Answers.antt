@@ -1,8 +1,8 @@
--- `asc_lines::told::Kind::frame` meets its contract: the default is zeros. Assumes nothing.
+-- `asc_lines::told::Body::frame` meets its contract: the default is zeros. Assumes nothing.
 use Rattle.std.proofs.Common.{rules, arith, sym, ◌≡◌, ◌∙◌, replicate}
 use Rattle.std.proofs.lemmas.List.{same_lists, get_or-replicate}
 use Rattle.asc_lines.specs.Told.{no_frame}
-use Rattle.asc_lines.proofs.told.Kind.frame.Goals as goal
+use Rattle.asc_lines.proofs.told.Body.frame.Goals as goal
 
 pub returns-in_default : goal.returns-in_default
 unfolding no_frame
