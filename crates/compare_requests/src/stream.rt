@@ -38,8 +38,8 @@ fn next_case<R: Read>(input: &mut R, buf: &mut [u8]) -> Option<usize>
     Some(end)
 }
 
-// Puts the reply to a case to the front of `out`, and behind it the bytes of the room; answers where it ends, none where
-// it is no case of ours.
+// Puts the reply to a case to the front of `out`, and behind it the bytes of the room; answers where it ends, none
+// where it is no case of ours.
 fn respond(question: u8, number: usize, first: &[u8], second: u32, out: &mut [u8]) -> Option<usize>
     requires { 8209 ≡ length out.old }
     ensures within { IfSome result (λ n. n ≤ length out.new) }
