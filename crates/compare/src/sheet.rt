@@ -104,8 +104,8 @@ pub trait Sheet {
         ensures { Kept result out.old out.new };
 }
 
-// Puts what a read answers: the record's numbers, and the reply: 6 and where they end, with the bytes of its frame behind
-// them; 7 for an object of another type; 2 at the log's end; 3 and the refusal. Answers where all ends.
+// Puts what a read answers: the record's numbers, and the reply: 6 and where they end, with the bytes of its frame
+// behind them; 7 for an object of another type; 2 at the log's end; 3 and the refusal. Answers where all ends.
 pub fn put_read<T: Sheet>(
     out: &mut [u8],
     told: ReadAnswer,
