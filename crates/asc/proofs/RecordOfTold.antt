@@ -12,7 +12,7 @@ use Rattle.fields.specs.Numbers.{Bytes}
 use Rattle.fields.proofs.BigEndian.{bytes_cons, bytes_append}
 use Rattle.digits.specs.Reading.{number}
 use Rattle.digits.specs.Pairs.{bytes_in, filled}
-use Rattle.digits.proofs.PairLaws.{length_bytes, byte_low}
+use Rattle.digits.proofs.PairLaws.{length_bytes, length_filled, byte_low}
 use Rattle.headers.specs.declared.header.Origin.TheVariants.{First}
 use Rattle.headers.specs.declared.header.Header.{Header}
 use Rattle.headers.specs.Header.{Fit}
@@ -27,7 +27,6 @@ use Rattle.asc_lines.specs.declared.told.Told.{Told}
 use Rattle.asc_lines.specs.Told.{of_message, of_overload, of_statistic, shown}
 use Rattle.asc_lines.specs.Lines.{line_of}
 use Rattle.asc_lines.specs.Reading.{stands, head_in, head_end, mid_in, dlc_in, frame_in, load_in, counts_in, candidate, possible_time}
-use Rattle.asc_lines.proofs.Eights.{filled_eight}
 use Rattle.asc_lines.proofs.Parsing.{FitFrame, FitCounts, shown_most}
 use Rattle.asc.specs.Tells.{head_told, kept, frame_told, counts_told, message, overload, statistic, tells}
 use Rattle.asc.specs.Lines.{Line, Stamped}
@@ -197,7 +196,7 @@ module _ (s : List ℕ) where
       record {
         id = omega arith;
         dlc = omega arith;
-        eight = filled_eight k s (dlc_in s at).end (shown_most remote dlc);
+        eight = length_filled k s (dlc_in s at).end (shown_most remote dlc);
         small = filled_bytes k s (dlc_in s at).end;
         keeps = filled_kept k s (dlc_in s at).end;
       }

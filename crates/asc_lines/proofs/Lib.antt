@@ -1,4 +1,3 @@
 pub mod Sames
 pub mod Readings
 pub mod Parsing
-pub mod Eights

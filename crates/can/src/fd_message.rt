@@ -1,20 +1,19 @@
 // The CAN FD message, type 100.
-ghost use Rattle.std.specs.Prelude.{◌≡◌, ◌+◌, ◌≤◌, length, leb};
+#![tactic(auto, using(crate::proofs::Laws::fd_message_length), unfolding(crate::specs::Fields::fd_message_of, headers::specs::HeadTests::first))]
+
+ghost use Rattle.std.specs.Prelude.{◌≡◌, true, refl, ◌+◌, ◌≤◌, length, leb};
 ghost use Rattle.fields.specs.Written.{Wrote};
 ghost use Rattle.fields.specs.Slots.{bytes_of};
-ghost use Rattle.fields.specs.Rules.{shifted};
-ghost use Rattle.fields.specs.Wrong.{wrong_byte, wrong_field};
-ghost use Rattle.headers.specs.Faults.{tested};
-ghost use Rattle.headers.specs.Form.{body_fault};
+ghost use Rattle.headers.specs.declared.kind.Kind.TheVariants as code;
 ghost use Rattle.can.specs.Tables.{timing_slots, fd_message_slots};
 ghost use Rattle.can.specs.Fields.{fd_message_of, most_valid, fd_message_format};
 
 use crate::front::{Front, get_front, put_front};
-use headers::Fault;
+use headers::{Fault, Header, Kind, Record, Whole};
 
 #[derive(Clone, Copy)]
 pub struct FdMessage {
-    pub header: headers::Header,
+    pub header: Header,
     pub channel: u16,
     pub flags: u8,
     pub dlc: u8,
@@ -30,61 +29,97 @@ pub struct FdMessage {
 }
 
 // Test 9, for reader and writer: whether the valid bytes are not above 64.
-pub fn valid_ok(valid: u8) -> bool
+fn valid_ok(valid: u8) -> bool
     ensures { result ≡ leb valid most_valid }
 {
     valid <= 64
 }
 
-// What refuses the body of a CAN FD message: 8 or 9.
-#[tactic(auto, unfolding(headers::specs::Form::body_fault, headers::specs::HeadTests::first))]
-pub fn fd_message_fault(b: &[u8]) -> Result<(), Fault>
-    requires { 88 ≤ length b.now }
-    ensures { tested result ≡ body_fault fd_message_format b.now }
-{
-    if !fields::all_zero(b, 15, 5) || !fields::all_zero(b, 84, 4) {
-        return Err(Fault::Reserved);
+impl Record for FdMessage {
+    ghost LENGTH = { 88 };
+
+    ghost of = { fd_message_of };
+
+    ghost gaps = { fd_message_format.gaps };
+
+    ghost rules = { fd_message_format.rules };
+
+    const LENGTH: usize = 88;
+
+    fn get(h: Header, b: &[u8]) -> Self {
+        let f = get_front(b);
+        Self {
+            header: h,
+            channel: f.channel,
+            flags: f.flags,
+            dlc: f.dlc,
+            id: f.id,
+            frame_length: fields::get32(b, 8),
+            bit_count: fields::get8(b, 12),
+            fd_flags: fields::get8(b, 13),
+            valid_bytes: fields::get8(b, 14),
+            bytes: fields::get_bytes(b, 20),
+        }
     }
-    if !valid_ok(fields::get8(b, 14)) {
-        return Err(Fault::Content);
+
+    fn check(b: &[u8]) -> Result<(), Fault> {
+        if !fields::all_zero(b, 15, 5) || !fields::all_zero(b, 84, 4) {
+            return Err(Fault::Reserved);
+        }
+        if !valid_ok(fields::get8(b, 14)) {
+            return Err(Fault::Content);
+        }
+        Ok(())
     }
-    Ok(())
+
+    fn wrong_byte(o: &[u8], head: usize) -> usize {
+        let after_data = fields::wrong_byte(o, head + 84, 4, 0);
+        fields::wrong_byte(o, head + 15, 5, after_data)
+    }
+
+    fn wrong_field(b: &[u8]) -> usize {
+        fields::wrong_field(valid_ok(fields::get8(b, 14)), 14, 0)
+    }
 }
 
-// The place of the first reserved byte that is not zero, or 0, in an object whose header is so long.
-pub fn fd_message_wrong_byte(o: &[u8], head: usize) -> usize
-    requires { head + 88 ≤ length o.now }
-    ensures { result ≡ wrong_byte (shifted head fd_message_format.gaps) o.now 0 }
-{
-    let after_data = fields::wrong_byte(o, head + 84, 4, 0);
-    fields::wrong_byte(o, head + 15, 5, after_data)
-}
+impl Whole for FdMessage {
+    ghost KIND = { code.CanFdMessage };
 
-// The place in a body of the valid bytes where they are above 64; else 0.
-pub fn fd_message_wrong_field(b: &[u8]) -> usize
-    requires { 88 ≤ length b.now }
-    ensures { result ≡ wrong_field (fd_message_format.rules b.now) }
-{
-    fields::wrong_field(valid_ok(fields::get8(b, 14)), 14, 0)
-}
+    ghost header = { fd_message_format.header };
 
-// The message of a header and a body.
-pub fn get_fd_message(h: headers::Header, b: &[u8]) -> FdMessage
-    requires { 88 ≤ length b.now }
-    ensures { result ≡ fd_message_of h b.now }
-{
-    let f = get_front(b);
-    FdMessage {
-        header: h,
-        channel: f.channel,
-        flags: f.flags,
-        dlc: f.dlc,
-        id: f.id,
-        frame_length: fields::get32(b, 8),
-        bit_count: fields::get8(b, 12),
-        fd_flags: fields::get8(b, 13),
-        valid_bytes: fields::get8(b, 14),
-        bytes: fields::get_bytes(b, 20),
+    ghost body = { bytes_of fd_message_slots };
+
+    ghost content = { fd_message_format.content };
+
+    ghost writable = { λ r. true };
+
+    ghost may_write = { λ r _. refl };
+
+    const KIND: Kind = Kind::CanFdMessage;
+
+    fn header(self) -> Header {
+        self.header
+    }
+
+    fn length(self) -> usize {
+        Self::LENGTH
+    }
+
+    fn content(self) -> bool {
+        valid_ok(self.valid_bytes)
+    }
+
+    fn put(self, out: &mut [u8], at: usize) {
+        let front = Front {
+            channel: self.channel,
+            flags: self.flags,
+            dlc: self.dlc,
+            id: self.id,
+        };
+        put_front(out, at, front);
+        put_timing(out, at, self);
+        fields::put_bytes(out, at + 20, &self.bytes);
+        fields::put_zeros(out, at + 84, 4);
     }
 }
 
@@ -98,22 +133,4 @@ fn put_timing(out: &mut [u8], at: usize, r: FdMessage)
     fields::put8(out, at + 13, r.fd_flags);
     fields::put8(out, at + 14, r.valid_bytes);
     fields::put_zeros(out, at + 15, 5);
-}
-
-// The body of a CAN FD message, written at a place.
-pub fn put_fd_message(out: &mut [u8], at: usize, r: FdMessage)
-    requires { at + 88 ≤ length out.old }
-    ensures { Wrote at (bytes_of fd_message_slots r) out.old out.new }
-{
-    let bytes = r.bytes;
-    let front = Front {
-        channel: r.channel,
-        flags: r.flags,
-        dlc: r.dlc,
-        id: r.id,
-    };
-    put_front(out, at, front);
-    put_timing(out, at, r);
-    fields::put_bytes(out, at + 20, &bytes);
-    fields::put_zeros(out, at + 84, 4);
 }

@@ -1,23 +1,20 @@
 // W-201, questions 1, 2 and 4: the line of an object, at a position, and of a record.
-use asc::{LineAt, LineStep};
-use objects::Cursor;
-use outcomes::Written;
+use asc::LineStep;
+use objects::{Cursor, Refusal};
 
-fn written(w: Written) -> [u64; 5] {
+fn written(w: Result<usize, Refusal>) -> [u64; 5] {
     match w {
-        Written::Used(n) => [5, n as u64, 0, 0, 0],
-        Written::Refused { number, place } => [3, number as u64, place as u64, 0, 0],
+        Ok(n) => [5, n as u64, 0, 0, 0],
+        Err(refusal) => [3, refusal.number() as u64, refusal.place() as u64, 0, 0],
     }
 }
 
 fn stepped(step: LineStep) -> [u64; 5] {
-    let next = step.next;
-    let to = next.at as u64;
-    let answer = step.answer;
-    match answer {
-        LineAt::Line(n) => [5, n as u64, 0, 0, to],
-        LineAt::Done => [2, 0, 0, 0, to],
-        LineAt::Refused { number, place } => [3, number as u64, place as u64, 0, to],
+    let to = step.next.at as u64;
+    match step.answer {
+        Ok(Some(n)) => [5, n as u64, 0, 0, to],
+        Ok(None) => [2, 0, 0, 0, to],
+        Err(refusal) => [3, refusal.number() as u64, refusal.place() as u64, 0, to],
     }
 }
 

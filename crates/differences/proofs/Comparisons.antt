@@ -3,36 +3,26 @@ use mathlib.Core.Path.{◌≡◌, refl, sym, ap, ◌∙◌}
 use mathlib.Core.Bool.{Bool, true, false, cond}
 use mathlib.Core.List.{List}
 use Prim.Native.Nat.{ℕ, ◌≤◌, ◌<◌}
-use Rattle.std.specs.Prelude.{leb}
+use Rattle.std.specs.Prelude.{Err, leb}
 use Rattle.std.proofs.lemmas.Bool.{le-leb}
 use Rattle.std.proofs.lemmas.Bool.Decides.{leb_tells}
 use native.Mathlib.Omega.{arith}
 use lib.ListN.{length}
-use Rattle.objects.specs.declared.Walked.{Walked}
-use Rattle.objects.specs.declared.Walked.TheVariants as walked
+use Rattle.objects.specs.Answers.{Walked}
+use Rattle.objects.specs.Answers as walked
 use Rattle.objects.specs.Walk.{walk_of}
-use Rattle.differences.specs.declared.Compared.{Compared}
-use Rattle.differences.specs.declared.Compared.TheVariants.{Rows, First, Second, Neither}
+use Rattle.differences.specs.declared.LogRefusal.{LogRefusal}
+use Rattle.differences.specs.Answers.{Compared, Rows, Neither}
 use Rattle.differences.specs.Rows.{rows_of}
 use Rattle.differences.specs.Columns.{Columns, room, listed_at}
 use Rattle.differences.specs.Comparing.{in_order, compared_of, Compares}
 use Rattle.differences.specs.Turns.{count_of}
 
 -- a refusal stands, whatever is told of two well-formed logs
-first_stands : (v w : Walked) (m k p : ℕ) (told : Compared) → in_order v w (Rows m) ≡ First k p → First k p ≡ in_order v w told
-first_stands (walked.Refused j q) w m k p told e = sym e
-first_stands (walked.Count i) (walked.Refused j q) m k p told e = absurd (cc)
-first_stands (walked.Count i) (walked.Count j) m k p told e = absurd (cc)
-
-second_stands : (v w : Walked) (m k p : ℕ) (told : Compared) → in_order v w (Rows m) ≡ Second k p → Second k p ≡ in_order v w told
-second_stands (walked.Refused j q) w m k p told e = absurd (cc)
-second_stands (walked.Count i) (walked.Refused j q) m k p told e = sym e
-second_stands (walked.Count i) (walked.Count j) m k p told e = absurd (cc)
-
-no_neither : (v w : Walked) (m k p : ℕ) → in_order v w (Rows m) ≡ Neither k p → ⊥
-no_neither (walked.Refused j q) w m k p e = cc
-no_neither (walked.Count i) (walked.Refused j q) m k p e = cc
-no_neither (walked.Count i) (walked.Count j) m k p e = cc
+refusal_stands : (v w : Walked) (m : ℕ) (r : LogRefusal) (told : Compared) → in_order v w (Rows m) ≡ Err r → Err r ≡ in_order v w told
+refusal_stands (Err q) w m r told e = sym e
+refusal_stands (walked.Count i) (Err q) m r told e = sym e
+refusal_stands (walked.Count i) (walked.Count j) m r told e = absurd (cc)
 
 -- both logs are well formed
 record Counted (v w : Walked) (m n : ℕ) : Type 0 where
@@ -40,20 +30,17 @@ record Counted (v w : Walked) (m n : ℕ) : Type 0 where
   tells : (told : Compared) → told ≡ in_order v w told
 
 counted : (v w : Walked) (m n : ℕ) → in_order v w (Rows m) ≡ Rows n → Counted v w m n
-counted (walked.Refused j q) w m n e = absurd (cc)
-counted (walked.Count i) (walked.Refused j q) m n e = absurd (cc)
+counted (Err q) w m n e = absurd (cc)
+counted (walked.Count i) (Err q) m n e = absurd (cc)
 counted (walked.Count i) (walked.Count j) m n e = record { many = cc; tells = λ told. refl }
 
 long : (a b : ℕ) → b < a → leb a b ≡ false
 long a b h = grind (arith, leb_tells a b)
 
 module _ (s t : List ℕ) (x : Columns) where
-  pub compares_refused : (r : Compared) → r ≡ count_of s t → ((n : ℕ) → r ≡ Rows n → ⊥) → Compares s t r x x
+  pub compares_refused : (r : LogRefusal) → Err r ≡ count_of s t → Compares s t (Err r) x x
   unfolding count_of compared_of
-  compares_refused (Rows n) e o = absurd (o n refl)
-  compares_refused (First k p) e o = record { told = first_stands (walk_of s) (walk_of t) _ k p _ (sym e); slices = refl }
-  compares_refused (Second k p) e o = record { told = second_stands (walk_of s) (walk_of t) _ k p _ (sym e); slices = refl }
-  compares_refused (Neither k p) e o = absurd (no_neither (walk_of s) (walk_of t) _ k p (sym e))
+  compares_refused r e = record { told = refusal_stands (walk_of s) (walk_of t) _ r _ (sym e); slices = refl }
 
   module _ (n : ℕ) (e : Rows n ≡ count_of s t) where
     is_counted : Counted (walk_of s) (walk_of t) (length (rows_of s t)) n

@@ -6,18 +6,21 @@ use Prim.Native.Nat.{ℕ, suc, ◌+◌, ◌*◌, ◌-◌, ◌≤◌, ◌<◌}
 use native.Mathlib.Nat.{zero-add}
 use native.Mathlib.Omega.{arith}
 use lib.ListN.{length}
-use Rattle.objects.specs.declared.Walked.TheVariants as walked
+use Rattle.objects.specs.Answers as walked
 use Rattle.objects.specs.Next.{next_at}
-use Rattle.objects.specs.declared.Answer.TheVariants.{Object, Done, Refused}
+use Rattle.objects.specs.Answers.{Object, Done, Refused}
 use Rattle.objects.specs.Stepping.{Ended, at_end, refused, no_step_left, Met, met_at}
 use Rattle.objects.proofs.Walks.{met_object, met_done, met_refused}
 use Rattle.objects.specs.Walk.{walked_by, walk_of}
-use Rattle.differences.specs.declared.Compared.{Compared}
-use Rattle.differences.specs.declared.Compared.TheVariants.{Rows, First, Second}
+use Rattle.differences.specs.Answers.{Compared, Rows, First, Second}
+use Rattle.differences.specs.declared.turns.Kind.{Kind}
 use Rattle.differences.specs.declared.turns.Pair.TheVariants as pair
 use Rattle.differences.specs.Rows.{rows_from, rows_of}
 use Rattle.differences.specs.Comparing.{in_order}
-use Rattle.differences.specs.Turns.{pair_of, else_second, count_of}
+use Rattle.std.specs.Prelude.{Ok, Err}
+use Rattle.differences.specs.declared.LogRefusal.{LogRefusal}
+use Rattle.differences.specs.declared.LogRefusal.TheVariants as log
+use Rattle.differences.specs.Turns.{row, pair_of, else_second, foremost, count_of}
 use Rattle.differences.proofs.Turning.{on, rows_met, Gone, turned}
 
 -- by how stepping through each log ended; how many objects it met tells nothing
@@ -74,7 +77,7 @@ module _ {s t : List ℕ} {at bt rows : ℕ} (w : Counting s t at bt rows) where
   pub less : Gone s t at bt → (length s - on s at) + (length t - on t bt) < (length s - at) + (length t - bt)
   less g = omega (arith, w.within, w.inside, g.first.within, g.second.within, g.further)
 
-  module _ (q : pair_of s t (next_at s at).answer (next_at t bt).answer ≡ pair.Equal) where
+  module _ (q : pair_of s t (next_at s at).answer (next_at t bt).answer ≡ Ok pair.Equal) where
     pub gone_equal : Gone s t at bt
     gone_equal = (turned s t at bt w.number q).0
 
@@ -83,30 +86,36 @@ module _ {s t : List ℕ} {at bt rows : ℕ} (w : Counting s t at bt rows) where
         let z : rows + 0 ≡ rows = omega arith in
         subst (λ (k : ℕ). Counting s t (on s at) (on t bt) k) z (go_on _ 0 (omega arith) gone_equal (ap length (turned s t at bt w.number q).1 ∙ sym (zero-add _)))
 
-  pub gone_row : {kind : ℕ} → pair_of s t (next_at s at).answer (next_at t bt).answer ≡ pair.Row kind → Gone s t at bt
+  pub gone_row : {k : Kind} → pair_of s t (next_at s at).answer (next_at t bt).answer ≡ row k → Gone s t at bt
   gone_row q = (turned s t at bt w.number q).0
 
-  pub counting_row : {kind : ℕ} → pair_of s t (next_at s at).answer (next_at t bt).answer ≡ pair.Row kind → Counting s t (on s at) (on t bt) (rows + 1)
+  pub counting_row : {k : Kind} → pair_of s t (next_at s at).answer (next_at t bt).answer ≡ row k → Counting s t (on s at) (on t bt) (rows + 1)
   counting_row q =
       let e = ap length (turned s t at bt w.number q).1 in
       go_on (suc w.number) 1 (omega arith) (gone_row q) (omega (arith, e))
 
   -- the ways out
-  pub count_end : pair_of s t (next_at s at).answer (next_at t bt).answer ≡ pair.End → Rows rows ≡ count_of s t
+  pub count_end : pair_of s t (next_at s at).answer (next_at t bt).answer ≡ Ok pair.End → Rows rows ≡ count_of s t
   unfolding rows_from
   count_end q =
       let a = turned s t at bt w.number q in
       let z : rows ≡ rows + 0 = omega arith in
       ap Rows z ∙ (λ i. ending (sym a.0 i).ended (sym a.1 i).ended (rows + length (rows_from s t w.number (sym a.0 i).objects (sym a.1 i).objects))) ∙ w.same
 
-  pub count_first : {k p : ℕ} → pair_of s t (next_at s at).answer (next_at t bt).answer ≡ pair.First k p → First k p ≡ count_of s t
+  count_first : {k p : ℕ} → pair_of s t (next_at s at).answer (next_at t bt).answer ≡ First k p → First k p ≡ count_of s t
   count_first q = let e = w.same in rw (turned s t at bt w.number q) at e
 
-  pub count_second : {k p : ℕ} → pair_of s t (next_at s at).answer (next_at t bt).answer ≡ pair.Second k p → else_second s (on s at) k p ≡ count_of s t
+  count_second : {k p : ℕ} → pair_of s t (next_at s at).answer (next_at t bt).answer ≡ Second k p → else_second s (on s at) k p ≡ count_of s t
   unfolding else_second
   count_second {k} {p} q =
       let a = turned s t at bt w.number q in
       unrowed (met_at s (on s at)).ended k p 0 _ ∙ (λ i. ending (a.1 i) (sym a.0 i) (rows + length (rows_met s t w.number at bt))) ∙ w.same
+
+  -- a refusal, in the order of the logs
+  pub count_refused : (r : LogRefusal) → pair_of s t (next_at s at).answer (next_at t bt).answer ≡ Err r → foremost s (on s at) r ≡ count_of s t
+  count_refused (log.First r) q = count_first q
+  count_refused (log.Second r) q = count_second q
+  count_refused (log.Neither r) q = absurd (turned s t at bt w.number q)
 
 -- the walk of the first log alone, from a place on
 module _ (s : List ℕ) (at k p : ℕ) where

@@ -8,12 +8,15 @@ use native.Mathlib.Omega.{arith}
 use lib.ListN.{length, length-set}
 use Rattle.objects.specs.Next.{next_at}
 use Rattle.objects.specs.Stepping.{Ended, at_end, refused, no_step_left, met_at}
-use Rattle.differences.specs.declared.Compared.TheVariants.{Rows}
-use Rattle.differences.specs.declared.turns.Pair.{Pair}
+use Rattle.differences.specs.declared.LogRefusal.TheVariants as log
+use Rattle.differences.specs.declared.turns.Kind.{Kind}
+use Rattle.differences.specs.Answers.{Rows, First, Second}
 use Rattle.differences.specs.declared.turns.Pair.TheVariants as pair
 use Rattle.differences.specs.Rows.{Row, row, rows_from, rows_of}
 use Rattle.differences.specs.Columns.{Columns, room, listed_at}
-use Rattle.differences.specs.Turns.{pair_of, count_of}
+use Rattle.std.specs.Prelude.{Ok, Err}
+use Rattle.differences.specs.Turns.{Found, number_of, pair_of, count_of}
+use Rattle.differences.specs.Turns.{row as row_found}
 use Rattle.differences.proofs.Turning.{on, rows_met, Gone, turned}
 use Rattle.differences.proofs.Counting.{ending, counted_whole}
 
@@ -105,7 +108,7 @@ module _ {s t : List ℕ} {rows : ℕ} {x y : Columns} {at bt n i : ℕ} (w : Fi
   pub less : Gone s t at bt → (length s - on s at) + (length t - on t bt) < (length s - at) + (length t - bt)
   less g = omega (arith, w.within, w.inside, g.first.within, g.second.within, g.further)
 
-  module _ (q : pair_of s t (next_at s at).answer (next_at t bt).answer ≡ pair.Equal) where
+  module _ (q : pair_of s t (next_at s at).answer (next_at t bt).answer ≡ Ok pair.Equal) where
     pub gone_equal : Gone s t at bt
     gone_equal = (turned s t at bt n q).0
 
@@ -114,40 +117,41 @@ module _ {s t : List ℕ} {rows : ℕ} {x y : Columns} {at bt n i : ℕ} (w : Fi
         let e : rows_met s t (n + 1) (on s at) (on t bt) ≡ rows_met s t n at bt = ap (λ (k : ℕ). rows_met s t k (on s at) (on t bt)) number_on ∙ sym (turned s t at bt n q).1 in
         go_on i gone_equal (ap (λ (r : List Row). i + length r) e ∙ w.left) w.wide (ap (λ (r : List Row). listed_at i r y) e)
 
-  module _ {kind : ℕ} (q : pair_of s t (next_at s at).answer (next_at t bt).answer ≡ pair.Row kind) where
+  module _ {k : Kind} (q : pair_of s t (next_at s at).answer (next_at t bt).answer ≡ row_found k) where
     pub gone_row : Gone s t at bt
     gone_row = (turned s t at bt n q).0
 
-    pub filling_row : Filling s t rows x (listed_at i (row n at bt kind ∷ []) y) (on s at) (on t bt) (n + 1) (i + 1)
+    pub filling_row : Filling s t rows x (listed_at i (row n at bt (number_of k) ∷ []) y) (on s at) (on t bt) (n + 1) (i + 1)
     filling_row =
         let others = rows_met s t (n + 1) (on s at) (on t bt) in
-        let e : row n at bt kind ∷ others ≡ rows_met s t n at bt = ap (λ (k : ℕ). row n at bt kind ∷ rows_met s t k (on s at) (on t bt)) number_on ∙ sym (turned s t at bt n q).1 in
-        go_on (i + 1) gone_row (omega (arith, ap length e, w.left)) (omega (arith, w.wide, room_kept i (row n at bt kind) y))
-        (listed_more i (row n at bt kind) others y ∙ ap (λ (r : List Row). listed_at i r y) e)
+        let e : row n at bt (number_of k) ∷ others ≡ rows_met s t n at bt = ap (λ (m : ℕ). row n at bt (number_of k) ∷ rows_met s t m (on s at) (on t bt)) number_on ∙ sym (turned s t at bt n q).1 in
+        go_on (i + 1) gone_row (omega (arith, ap length e, w.left)) (omega (arith, w.wide, room_kept i (row n at bt (number_of k)) y))
+        (listed_more i (row n at bt (number_of k)) others y ∙ ap (λ (r : List Row). listed_at i r y) e)
 
   -- there is a row yet: neither an end nor a refusal
   module _ (h : i < rows) where
-    pub no_end : pair_of s t (next_at s at).answer (next_at t bt).answer ≡ pair.End → ⊥
+    pub no_end : pair_of s t (next_at s at).answer (next_at t bt).answer ≡ Ok pair.End → ⊥
     unfolding rows_from
     no_end q =
         let a = turned s t at bt n q in
         let e : length (rows_met s t n at bt) ≡ 0 = λ j. length (rows_from s t n (a.0 j).objects (a.1 j).objects) in
         omega (arith, e, w.left, h)
 
-    pub no_first : {k p : ℕ} → pair_of s t (next_at s at).answer (next_at t bt).answer ≡ pair.First k p → ⊥
+    pub no_first : {k p : ℕ} → pair_of s t (next_at s at).answer (next_at t bt).answer ≡ First k p → ⊥
     no_first {k} {p} q = w.first k p (turned s t at bt n q)
 
-    pub no_second : {k p : ℕ} → pair_of s t (next_at s at).answer (next_at t bt).answer ≡ pair.Second k p → ⊥
+    pub no_second : {k p : ℕ} → pair_of s t (next_at s at).answer (next_at t bt).answer ≡ Second k p → ⊥
     no_second {k} {p} q = w.second k p (turned s t at bt n q).0
 
     -- nor a row, where it is none
-    pub filling_other : (p : Pair) → pair_of s t (next_at s at).answer (next_at t bt).answer ≡ p → ((kind : ℕ) → p ≡ pair.Row kind → ⊥)
+    pub filling_other : (p : Found) → pair_of s t (next_at s at).answer (next_at t bt).answer ≡ p → ((k : Kind) → p ≡ row_found k → ⊥)
         → Gone s t at bt × Filling s t rows x y (on s at) (on t bt) (n + 1) i
-    filling_other pair.Equal q o = (gone_equal q, filling_equal q)
-    filling_other (pair.Row kind) q o = absurd (o kind refl)
-    filling_other pair.End q o = absurd (no_end q)
-    filling_other (pair.First k p) q o = absurd (no_first q)
-    filling_other (pair.Second k p) q o = absurd (no_second q)
+    filling_other (Ok pair.Equal) q o = (gone_equal q, filling_equal q)
+    filling_other (Ok (pair.Row k)) q o = absurd (o k refl)
+    filling_other (Ok pair.End) q o = absurd (no_end q)
+    filling_other (Err (log.First r)) q o = absurd (no_first q)
+    filling_other (Err (log.Second r)) q o = absurd (no_second q)
+    filling_other (Err (log.Neither r)) q o = absurd (turned s t at bt n q)
 
   -- all are listed
   pub filled : rows ≤ i → y ≡ listed_at 0 (rows_of s t) x

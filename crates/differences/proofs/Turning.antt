@@ -8,20 +8,22 @@ use native.Mathlib.Omega.{arith}
 use lib.ListN.{length}
 use Rattle.fields.specs.Numbers.{part}
 use Rattle.fields.specs.Same.{same}
-use Rattle.objects.specs.declared.Answer.{Answer}
-use Rattle.objects.specs.declared.Answer.TheVariants.{Object, Done, Refused}
+use Rattle.std.specs.Prelude.{Some, Ok, Err}
+use Rattle.objects.specs.Answers.{Answer, Object, Done}
 use Rattle.objects.specs.declared.Step.{Step}
-use Rattle.objects.specs.Named.{Entry}
+use Rattle.objects.specs.declared.Entry.{Entry}
 use Rattle.objects.specs.Next.{next_at}
 use Rattle.objects.specs.Stepping.{at_end, refused, Met, stopped, met_at}
 use Rattle.objects.proofs.FaultLaws.{next_done}
 use Rattle.objects.proofs.Steps.{is_at_end}
 use Rattle.objects.proofs.Walks.{ahead, met_object, met_done, met_refused}
 use Rattle.differences.specs.declared.turns.Turn.{Turn}
-use Rattle.differences.specs.declared.turns.Pair.{Pair}
+use Rattle.differences.specs.declared.LogRefusal.TheVariants as log
+use Rattle.differences.specs.declared.turns.Kind.TheVariants as kind
 use Rattle.differences.specs.declared.turns.Pair.TheVariants as pair
 use Rattle.differences.specs.Rows.{Row, row, rows_from}
-use Rattle.differences.specs.Turns.{pair_of, turn_of}
+use Rattle.differences.specs.Turns.{Found, number_of, pair_of, turn_of}
+use Rattle.differences.specs.Turns.{row as row_found}
 
 -- where a log goes on behind a step
 abbrev pub on : List ℕ → ℕ → ℕ
@@ -83,16 +85,17 @@ module _ (s t : List ℕ) where
       pub second : Kept t bt
       pub further : (at + bt) + 16 ≤ on s at + on t bt
 
-    abbrev pub After : ℕ → Pair → Type 0
-    After n pair.Equal = Gone × (rows_met n at bt ≡ rows_met (suc n) (on s at) (on t bt))
-    After n (pair.Row kind) = Gone × (rows_met n at bt ≡ row n at bt kind ∷ rows_met (suc n) (on s at) (on t bt))
-    After n pair.End = (met_at s at ≡ stopped at at_end) × (met_at t bt ≡ stopped bt at_end)
-    After n (pair.First number place) = (met_at s at).ended ≡ refused number place
-    After n (pair.Second number place) = ((met_at t bt).ended ≡ refused number place) × ((met_at s (on s at)).ended ≡ (met_at s at).ended)
+    abbrev pub After : ℕ → Found → Type 0
+    After n (Ok pair.Equal) = Gone × (rows_met n at bt ≡ rows_met (suc n) (on s at) (on t bt))
+    After n (Ok (pair.Row k)) = Gone × (rows_met n at bt ≡ row n at bt (number_of k) ∷ rows_met (suc n) (on s at) (on t bt))
+    After n (Ok pair.End) = (met_at s at ≡ stopped at at_end) × (met_at t bt ≡ stopped bt at_end)
+    After n (Err (log.First r)) = (met_at s at).ended ≡ refused r.number r.place
+    After n (Err (log.Second r)) = ((met_at t bt).ended ≡ refused r.number r.place) × ((met_at s (on s at)).ended ≡ (met_at s at).ended)
+    After n (Err (log.Neither r)) = ⊥
 
     module _ (n : ℕ) where
       -- two objects
-      both : (a m j b l k : ℕ) → One s at a m j → One t bt b l k → (x : Bool) → same (part m s a) (part l t b) ≡ x → After n (cond x pair.Equal (pair.Row 1))
+      both : (a m j b l k : ℕ) → One s at a m j → One t bt b l k → (x : Bool) → same (part m s a) (part l t b) ≡ x → After n (cond x (Ok pair.Equal) (row_found kind.BytesDiffer))
       unfolding rows_from
       both a m j b l k o p x q =
           let others = rows_met (suc n) (on s at) (on t bt) in
@@ -102,12 +105,12 @@ module _ (s t : List ℕ) where
           by x rows gone
         where
           by : (y : Bool) → rows_met n at bt ≡ cond y (rows_met (suc n) (on s at) (on t bt)) (row n a b 1 ∷ rows_met (suc n) (on s at) (on t bt)) → Gone
-              → After n (cond y pair.Equal (pair.Row 1))
+              → After n (cond y (Ok pair.Equal) (row_found kind.BytesDiffer))
           by true rows gone = (gone, rows)
           by false rows gone = (gone, rows ∙ (λ i. row n (o.here i) (p.here i) 1 ∷ rows_met (suc n) (on s at) (on t bt)))
 
       -- one of the first log alone
-      first_alone : (a m j : ℕ) → One s at a m j → Over t bt → After n (pair.Row 2)
+      first_alone : (a m j : ℕ) → One s at a m j → Over t bt → After n (row_found kind.OnlyFirst)
       unfolding rows_from
       first_alone a m j o z = (
         record { first = o.kept; second = z.kept; further = omega (arith, o.further, z.stays) },
@@ -116,7 +119,7 @@ module _ (s t : List ℕ) where
       )
 
       -- one of the second
-      second_alone : (b l k : ℕ) → Over s at → One t bt b l k → After n (pair.Row 3)
+      second_alone : (b l k : ℕ) → Over s at → One t bt b l k → After n (row_found kind.OnlySecond)
       unfolding rows_from
       second_alone b l k z p = (
         record { first = z.kept; second = p.kept; further = omega (arith, p.further, z.stays) },
@@ -125,15 +128,17 @@ module _ (s t : List ℕ) where
       )
 
       by_answers : (a b : Answer) → (next_at s at).answer ≡ a → (next_at t bt).answer ≡ b → After n (pair_of s t a b)
-      by_answers (Object a m j) (Object b l k) e f = both a m j b l k (one s at a m j e) (one t bt b l k f) (same (part m s a) (part l t b)) refl
-      by_answers (Object a m j) Done e f = first_alone a m j (one s at a m j e) (over t bt f)
-      by_answers (Object a m j) (Refused k p) e f = (ap (λ (x : Met). x.ended) (met_refused t bt f), (one s at a m j e).kept.ended)
-      by_answers Done (Object b l k) e f = second_alone b l k (over s at e) (one t bt b l k f)
+      by_answers (Ok (Some o)) (Ok (Some p)) e f =
+          both o.start o.size o.kind p.start p.size p.kind (one s at o.start o.size o.kind e) (one t bt p.start p.size p.kind f)
+          (same (part o.size s o.start) (part p.size t p.start)) refl
+      by_answers (Ok (Some o)) Done e f = first_alone o.start o.size o.kind (one s at o.start o.size o.kind e) (over t bt f)
+      by_answers (Ok (Some o)) (Err r) e f = (ap (λ (x : Met). x.ended) (met_refused t bt f), (one s at o.start o.size o.kind e).kept.ended)
+      by_answers Done (Ok (Some p)) e f = second_alone p.start p.size p.kind (over s at e) (one t bt p.start p.size p.kind f)
       by_answers Done Done e f = ((over s at e).met, (over t bt f).met)
-      by_answers Done (Refused k p) e f = (ap (λ (x : Met). x.ended) (met_refused t bt f), (over s at e).kept.ended)
-      by_answers (Refused k p) b e f = ap (λ (x : Met). x.ended) (met_refused s at e)
+      by_answers Done (Err r) e f = (ap (λ (x : Met). x.ended) (met_refused t bt f), (over s at e).kept.ended)
+      by_answers (Err r) b e f = ap (λ (x : Met). x.ended) (met_refused s at e)
 
-      pub turned : {p : Pair} → pair_of s t (next_at s at).answer (next_at t bt).answer ≡ p → After n p
+      pub turned : {p : Found} → pair_of s t (next_at s at).answer (next_at t bt).answer ≡ p → After n p
       turned e = subst (After n) e (by_answers (next_at s at).answer (next_at t bt).answer refl refl)
 
 -- a turn, part by part

@@ -1,18 +1,17 @@
 -- W-209: "Refusals: the first log's, then the second's, each saying which log; then 10, place 0, when the shortest slice
 -- is too short, with the slices unchanged."
-use Rattle.std.specs.Prelude.{ℕ, ◌≡◌, cond, List, length, leb}
-use Rattle.objects.specs.declared.Walked.{Walked}
-use Rattle.objects.specs.declared.Walked.TheVariants as walked
+use Rattle.std.specs.Prelude.{ℕ, ◌≡◌, Err, cond, List, length, leb}
+use Rattle.objects.specs.Answers.{Walked}
+use Rattle.objects.specs.Answers as walked
 use Rattle.objects.specs.Walk.{walk_of}
-use Rattle.differences.specs.declared.Compared.{Compared}
-use Rattle.differences.specs.declared.Compared.TheVariants.{Rows, First, Second, Neither}
+use Rattle.differences.specs.Answers.{Compared, Rows, First, Second, Neither}
 use Rattle.differences.specs.Rows.{Row, rows_of}
 use Rattle.differences.specs.Columns.{Columns, room, listed_at}
 
 -- by the walk of the first log, that of the second, and what is told where both are well formed
 abbrev pub in_order : Walked → Walked → Compared → Compared
-in_order (walked.Refused number place) w told = First number place
-in_order (walked.Count n) (walked.Refused number place) told = Second number place
+in_order (Err r) w told = First r.number r.place
+in_order (walked.Count n) (Err r) told = Second r.number r.place
 in_order (walked.Count n) (walked.Count m) told = told
 
 -- so many rows, and room for so many
@@ -25,9 +24,7 @@ compared_of s t x = in_order (walk_of s) (walk_of t) (fitted (length (rows_of s 
 -- the slices afterwards: the rows at their front, or as they were
 abbrev pub left_by : Compared → List Row → Columns → Columns
 left_by (Rows n) rs x = listed_at 0 rs x
-left_by (First number place) rs x = x
-left_by (Second number place) rs x = x
-left_by (Neither number place) rs x = x
+left_by (Err e) rs x = x
 
 -- What a comparison gives: r is the answer, and y the slices that were x; both are determined.
 pub record Compares (s t : List ℕ) (r : Compared) (x y : Columns) : Type 0 where

@@ -3,7 +3,7 @@
 use Rattle.std.specs.Prelude.{ℕ, suc, cond, List, [], ◌∷◌, length}
 use Rattle.fields.specs.Numbers.{part}
 use Rattle.fields.specs.Same.{same}
-use Rattle.objects.specs.Named.{Entry}
+use Rattle.objects.specs.declared.Entry.{Entry}
 use Rattle.objects.specs.Stepping.{objects_of}
 
 -- the object's number from 0, its start in the first log and in the second, and the kind

@@ -1,99 +1,83 @@
 // A turn is a step in each log. One pass of turns counts the rows; where they have room, a second lists them.
-ghost use Rattle.std.specs.Prelude.{◌≡◌, ◌<◌, ◌≤◌, length, set, [], ◌∷◌};
-ghost use Rattle.differences.specs.declared.Compared.TheVariants.{Rows};
+ghost use Rattle.std.specs.Prelude.{◌≡◌, ◌<◌, ◌≤◌, Err, [], ◌∷◌};
+ghost use Rattle.differences.specs.Answers.{Rows};
 ghost use Rattle.differences.specs.Rows.{row, rows_of};
 ghost use Rattle.differences.specs.Columns.{columns, room, listed_at};
-ghost use Rattle.differences.specs.Turns.{Stepped, beside_none, beside, pair_of, turn_of, else_second, count_of};
+ghost use Rattle.differences.specs.Turns.{Stepped, number_of, pair_of, turn_of, foremost, count_of};
 
-use crate::Compared;
-use objects::{Answer, Cursor};
+use crate::LogRefusal;
+use objects::{Cursor, Entry, Refusal};
 
 // The kinds of rows.
-const BYTES_DIFFER: u64 = 1;
+#[derive(Clone, Copy)]
+pub enum Kind {
+    BytesDiffer = 1,
+    OnlyFirst = 2,
+    OnlySecond = 3,
+}
 
-const ONLY_FIRST: u64 = 2;
+impl Kind {
+    // The number that a row tells.
+    fn number(self) -> u64
+        ensures { result ≡ number_of self }
+    {
+        self as u64
+    }
+}
 
-const ONLY_SECOND: u64 = 3;
+// The object's number from 0, where it starts in the first log and in the second, and the kind.
+#[derive(Clone, Copy)]
+pub struct Row {
+    pub number: usize,
+    pub first: usize,
+    pub second: usize,
+    pub kind: Kind,
+}
 
 // What two steps have found.
-#[derive(Drop)]
+#[derive(Clone, Copy)]
 pub enum Pair {
     // Two objects, byte for byte the same.
     Equal,
     // Two objects that differ, or one alone.
-    Row { kind: u64 },
+    Row(Kind),
     // Both logs are at their end.
     End,
-    // The first log is refused.
-    First { number: u32, place: usize },
-    // The second log is refused; the first is not, so far.
-    Second { number: u32, place: usize },
 }
 
-// What was found, and where each log goes on.
-#[derive(Drop)]
+// What was found, or which log is refused, and where each log goes on.
+#[derive(Clone, Copy)]
 pub struct Turn {
-    pub pair: Pair,
+    pub pair: Result<Pair, LogRefusal>,
     pub first: Cursor,
     pub second: Cursor,
 }
 
-// What the second log has where the first has no more object.
-fn beside_none(answer: Answer) -> Pair
-    ensures { result ≡ beside_none answer }
-{
-    match answer {
-        Answer::Object {
-            start: _,
-            size: _,
-            kind: _,
-        } => {
-            let kind = ONLY_SECOND;
-            Pair::Row { kind }
-        }
-        Answer::Done => Pair::End,
-        Answer::Refused { number, place } => Pair::Second { number, place },
-    }
-}
-
-// What the second log has beside an object of the first.
-fn beside(object: &[u8], second: &[u8], answer: Answer) -> Pair
-    requires { (16 ≤ length object.now) × Stepped second.now answer }
-    ensures { result ≡ beside object.now second.now answer }
-{
-    match answer {
-        Answer::Object {
-            start,
-            size,
-            kind: _,
-        } => {
-            if fields::same(object, &second[start..start + size]) {
-                return Pair::Equal;
-            }
-            let kind = BYTES_DIFFER;
-            Pair::Row { kind }
-        }
-        Answer::Done => {
-            let kind = ONLY_FIRST;
-            Pair::Row { kind }
-        }
-        Answer::Refused { number, place } => Pair::Second { number, place },
-    }
-}
-
 // What two steps have found, of which the first log's refusal comes before all else.
-fn pair_of(first: &[u8], second: &[u8], one: Answer, other: Answer) -> Pair
+fn pair_of(
+    first: &[u8],
+    second: &[u8],
+    one: Result<Option<Entry>, Refusal>,
+    other: Result<Option<Entry>, Refusal>,
+) -> Result<Pair, LogRefusal>
     requires { Stepped first.now one × Stepped second.now other }
     ensures { result ≡ pair_of first.now second.now one other }
 {
-    match one {
-        Answer::Object {
-            start,
-            size,
-            kind: _,
-        } => beside(&first[start..start + size], second, other),
-        Answer::Done => beside_none(other),
-        Answer::Refused { number, place } => Pair::First { number, place },
+    match (one, other) {
+        (Err(refusal), _) => Err(LogRefusal::First(refusal)),
+        (Ok(_), Err(refusal)) => Err(LogRefusal::Second(refusal)),
+        (Ok(Some(o)), Ok(Some(p))) => {
+            if fields::same(
+                &first[o.start..o.start + o.size],
+                &second[p.start..p.start + p.size],
+            ) {
+                return Ok(Pair::Equal);
+            }
+            Ok(Pair::Row(Kind::BytesDiffer))
+        }
+        (Ok(Some(_)), Ok(None)) => Ok(Pair::Row(Kind::OnlyFirst)),
+        (Ok(None), Ok(Some(_))) => Ok(Pair::Row(Kind::OnlySecond)),
+        (Ok(None), Ok(None)) => Ok(Pair::End),
     }
 }
 
@@ -103,74 +87,49 @@ fn take_turn(first: &[u8], c: Cursor, second: &[u8], d: Cursor) -> Turn
 {
     let a = c.step(first);
     let b = d.step(second);
-    let one = a.answer;
-    let other = b.answer;
     Turn {
-        pair: pair_of(first, second, one, other),
+        pair: pair_of(first, second, a.answer, b.answer),
         first: a.next,
         second: b.next,
     }
 }
 
-// The refusal of the first log from a cursor on, or else this one of the second.
-fn else_second(first: &[u8], from: Cursor, number: u32, place: usize) -> Compared
-    ensures { result ≡ else_second first.now from.at number place }
+// The refusal of the first log from a cursor on comes before this one, if it is of the second.
+fn foremost(first: &[u8], from: Cursor, refusal: LogRefusal) -> LogRefusal
+    ensures { Err result ≡ foremost first.now from.at refusal }
 {
+    let LogRefusal::Second(second) = refusal else {
+        return refusal;
+    };
     let mut c = from;
     loop {
         let step = c.step(first);
-        let answer = step.answer;
-        match answer {
-            Answer::Object {
-                start: _,
-                size: _,
-                kind: _,
-            } => {
-                let next = step.next;
-                c = next;
-            }
-            Answer::Done => {
-                return Compared::Second { number, place };
-            }
-            Answer::Refused {
-                number: refusal,
-                place: there,
-            } => {
-                return Compared::First {
-                    number: refusal,
-                    place: there,
-                };
-            }
+        match step.answer {
+            Ok(Some(_)) => c = step.next,
+            Ok(None) => return LogRefusal::Second(second),
+            Err(refusal) => return LogRefusal::First(refusal),
         }
     }
 }
 
 // How many rows there are, or the first refusal.
-pub(crate) fn count(first: &[u8], second: &[u8]) -> Compared
+pub(crate) fn count(first: &[u8], second: &[u8]) -> Result<usize, LogRefusal>
     ensures { result ≡ count_of first.now second.now }
 {
     let mut c = Cursor::new();
     let mut d = Cursor::new();
     let mut rows: usize = 0;
     loop {
-        let t = take_turn(first, c, second, d);
-        let pair = t.pair;
-        let next = t.first;
-        let after = t.second;
+        let Turn {
+            pair,
+            first: next,
+            second: after,
+        } = take_turn(first, c, second, d);
         match pair {
-            Pair::Equal => {}
-            Pair::Row { kind: _ } => {
-                rows += 1;
-            }
-            Pair::End => {
-                return Compared::Rows(rows);
-            }
-            Pair::First { number, place } => {
-                return Compared::First { number, place };
-            }
-            Pair::Second { number, place } => {
-                return else_second(first, next, number, place);
-            }
+            Ok(Pair::Equal) => {}
+            Ok(Pair::Row(_)) => rows += 1,
+            Ok(Pair::End) => return Ok(rows),
+            Err(refusal) => return Err(foremost(first, next, refusal)),
         }
         c = next;
         d = after;
@@ -184,19 +143,16 @@ fn put_row(
     seconds: &mut [u64],
     kinds: &mut [u64],
     i: usize,
-    n: usize,
-    a: usize,
-    b: usize,
-    kind: u64,
+    r: Row,
 )
     requires { i < room (columns numbers.old firsts.old seconds.old kinds.old) }
     ensures { columns numbers.new firsts.new seconds.new kinds.new
-        ≡ listed_at i (row n a b kind ∷ []) (columns numbers.old firsts.old seconds.old kinds.old) }
+        ≡ listed_at i (row r.number r.first r.second (number_of r.kind) ∷ []) (columns numbers.old firsts.old seconds.old kinds.old) }
 {
-    numbers[i] = n as u64;
-    firsts[i] = a as u64;
-    seconds[i] = b as u64;
-    kinds[i] = kind;
+    numbers[i] = r.number as u64;
+    firsts[i] = r.first as u64;
+    seconds[i] = r.second as u64;
+    kinds[i] = r.kind.number();
 }
 
 // Lists the rows of two well-formed logs, which are so many and have room.
@@ -220,15 +176,18 @@ pub(crate) fn fill(
     let mut i: usize = 0;
     while i < rows {
         let t = take_turn(first, c, second, d);
-        let pair = t.pair;
-        let next = t.first;
-        let after = t.second;
-        if let Pair::Row { kind } = pair {
-            put_row(numbers, firsts, seconds, kinds, i, n, c.at, d.at, kind);
+        if let Ok(Pair::Row(kind)) = t.pair {
+            let r = Row {
+                number: n,
+                first: c.at,
+                second: d.at,
+                kind,
+            };
+            put_row(numbers, firsts, seconds, kinds, i, r);
             i += 1;
         }
         n += 1;
-        c = next;
-        d = after;
+        c = t.first;
+        d = t.second;
     }
 }

@@ -4,7 +4,7 @@ use mathlib.Core.List.{List, [], ◌∷◌, ◌++◌, append_assoc, append-nil}
 use Prim.Native.Nat.{ℕ, zero, suc, ◌+◌, ◌-◌, ◌*◌, ◌≤◌, ◌<◌}
 use native.Mathlib.Nat.{add-zero}
 use native.Mathlib.Omega.{arith}
-use lib.ListN.{length, take, drop, get_or, set, replicate, length-append}
+use lib.ListN.{length, take, drop, get_or, set, replicate, length-append, length-replicate}
 use lib.Seq.{take-suc, length-take-le, drop-drop, drop-append-add, split_at, set_at}
 use Rattle.std.proofs.lemmas.List.{nil_from_length}
 use Rattle.digits.specs.Digits.{fixed}
@@ -66,6 +66,10 @@ pub length_bytes : (k : ℕ) (s : List ℕ) (at : ℕ) → length (bytes_in k s 
 unfolding bytes_in
 length_bytes zero s at = refl
 length_bytes (suc k) s at = length-append (bytes_in k s at) ((number 16 2 s (at + 3 * k + 1)).value ∷ []) ∙ rw (length_bytes k s at) (omega arith)
+
+pub length_filled : (k : ℕ) (s : List ℕ) (at : ℕ) → k ≤ 8 → length (filled k s at) ≡ 8
+unfolding filled
+length_filled k s at h = length-append (bytes_in k s at) (replicate (8 - k) 0) ∙ rw (length_bytes, length-replicate) (omega arith)
 
 -- a byte fits
 pub byte_low : (s : List ℕ) (at : ℕ) {n : Number} → n ≡ number 16 2 s at → n.value < 256

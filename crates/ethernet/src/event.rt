@@ -11,7 +11,7 @@ ghost use Rattle.ethernet.specs.Fields.{structure_length, longest_frame, length_
 ghost use Rattle.ethernet.specs.Tables.{origin_slots, transmission_slots, event_slots};
 
 use crate::frame::Frame;
-use headers::Fault;
+use headers::{Fault, Record};
 
 // Whether the structure length in a body is right.
 fn structure_right(b: &[u8]) -> bool
@@ -31,7 +31,7 @@ fn frame_right(b: &[u8]) -> bool
 
 // What refuses the two lengths in a body: 9.
 #[tactic(auto, unfolding(headers::specs::Form::body_fault, headers::specs::HeadTests::first))]
-pub fn length_fault(b: &[u8]) -> Result<(), Fault>
+pub(crate) fn length_fault(b: &[u8]) -> Result<(), Fault>
     requires { structure_length ≤ length b.now }
     ensures { tested result ≡ first 9 (each_right (length_rules b.now)) 0 }
 {
@@ -42,7 +42,7 @@ pub fn length_fault(b: &[u8]) -> Result<(), Fault>
 }
 
 // The place in a body of the first of the two lengths that is wrong, structure length or frame length; else 0.
-pub fn wrong_length(b: &[u8]) -> usize
+pub(crate) fn wrong_length(b: &[u8]) -> usize
     requires { structure_length ≤ length b.now }
     ensures { result ≡ wrong_field (length_rules b.now) }
 {
@@ -75,7 +75,7 @@ fn put_transmission(out: &mut [u8], at: usize, r: Frame, n: u16)
 }
 
 // The body of a frame or an error, written at a place; `last` is the number at 28.
-pub fn put_event(out: &mut [u8], at: usize, r: Frame, last: u32, lent: &[u8])
+pub(crate) fn put_event(out: &mut [u8], at: usize, r: Frame, last: u32, lent: &[u8])
     requires { (at + structure_length + length lent.now ≤ length out.old) × (length lent.now ≤ longest_frame) }
     ensures { Wrote at (bytes_of (event_slots (λ f. f) (number 4 (λ f. last)) (λ f. lent.now)) r) out.old out.new }
 {

@@ -1,21 +1,19 @@
 // The Ethernet frame, type 120, and the forwarded frame, type 121.
+#![tactic(auto, unfolding(crate::specs::Fields::frame_of, headers::specs::HeadTests::first))]
+
 ghost use Rattle.std.specs.Prelude.{◌≡◌, ◌+◌, ◌≤◌, length, drop};
 ghost use Rattle.fields.specs.Written.{Wrote};
 ghost use Rattle.fields.specs.Slots.{bytes_of};
-ghost use Rattle.fields.specs.Rules.{shifted};
-ghost use Rattle.fields.specs.Wrong.{wrong_byte};
-ghost use Rattle.headers.specs.Faults.{tested};
-ghost use Rattle.headers.specs.Form.{body_fault};
 ghost use Rattle.ethernet.specs.Fields.{structure_length, longest_frame, frame_of, frame_format};
 ghost use Rattle.ethernet.specs.Tables.{frame_slots};
 
-use crate::event::{length_fault, put_event};
-use headers::Fault;
+use crate::event::{length_fault, put_event, wrong_length};
+use headers::{Fault, Header, Record};
 
 // Structure length and frame length are not kept: they follow from the frame's bytes, which are lent beside the record.
 #[derive(Clone, Copy)]
 pub struct Frame {
-    pub header: headers::Header,
+    pub header: Header,
     pub flags: u16,
     pub channel: u16,
     pub hardware: u16,
@@ -25,45 +23,44 @@ pub struct Frame {
     pub handle: u32,
 }
 
-impl Frame {
-    // The structure length: where the frame's bytes begin in the body.
-    pub const LENGTH: usize = 32;
-}
+// The least length of a body is the structure length: there the frame's bytes begin.
+impl Record for Frame {
+    ghost LENGTH = { structure_length };
 
-// What refuses the body of a frame: 8 or 9.
-#[tactic(auto, unfolding(headers::specs::Form::body_fault, headers::specs::HeadTests::first))]
-pub fn frame_fault(b: &[u8]) -> Result<(), Fault>
-    requires { structure_length ≤ length b.now }
-    ensures { tested result ≡ body_fault frame_format b.now }
-{
-    if !fields::all_zero(b, 28, 4) {
-        return Err(Fault::Reserved);
+    ghost of = { frame_of };
+
+    ghost gaps = { frame_format.gaps };
+
+    ghost rules = { frame_format.rules };
+
+    const LENGTH: usize = 32;
+
+    fn get(h: Header, b: &[u8]) -> Self {
+        Self {
+            header: h,
+            flags: fields::get16(b, 2),
+            channel: fields::get16(b, 4),
+            hardware: fields::get16(b, 6),
+            duration: fields::get64(b, 8),
+            checksum: fields::get32(b, 16),
+            direction: fields::get16(b, 20),
+            handle: fields::get32(b, 24),
+        }
     }
-    length_fault(b)
-}
 
-// The place of the first reserved byte that is not zero, or 0, in an object whose header is so long.
-pub fn frame_wrong_byte(o: &[u8], head: usize) -> usize
-    requires { head + structure_length ≤ length o.now }
-    ensures { result ≡ wrong_byte (shifted head frame_format.gaps) o.now 0 }
-{
-    fields::wrong_byte(o, head + 28, 4, 0)
-}
+    fn check(b: &[u8]) -> Result<(), Fault> {
+        if !fields::all_zero(b, 28, 4) {
+            return Err(Fault::Reserved);
+        }
+        length_fault(b)
+    }
 
-// The frame of a header and a body; `frame_view` gives its bytes.
-pub fn get_frame(h: headers::Header, b: &[u8]) -> Frame
-    requires { structure_length ≤ length b.now }
-    ensures { result ≡ frame_of h b.now }
-{
-    Frame {
-        header: h,
-        flags: fields::get16(b, 2),
-        channel: fields::get16(b, 4),
-        hardware: fields::get16(b, 6),
-        duration: fields::get64(b, 8),
-        checksum: fields::get32(b, 16),
-        direction: fields::get16(b, 20),
-        handle: fields::get32(b, 24),
+    fn wrong_byte(o: &[u8], head: usize) -> usize {
+        fields::wrong_byte(o, head + 28, 4, 0)
+    }
+
+    fn wrong_field(b: &[u8]) -> usize {
+        wrong_length(b)
     }
 }
 

@@ -1,15 +1,15 @@
 // The Ethernet error, type 122, and the forwarded error, type 123: a frame that went wrong.
-ghost use Rattle.std.specs.Prelude.{◌≡◌, ◌+◌, ◌≤◌, length};
+#![tactic(auto, unfolding(crate::specs::Fields::error_of, headers::specs::HeadTests::first))]
+
+ghost use Rattle.std.specs.Prelude.{◌+◌, ◌≤◌, length};
 ghost use Rattle.fields.specs.Written.{Wrote};
 ghost use Rattle.fields.specs.Slots.{bytes_of};
-ghost use Rattle.headers.specs.Faults.{tested};
-ghost use Rattle.headers.specs.Form.{body_fault};
 ghost use Rattle.ethernet.specs.Fields.{structure_length, longest_frame, error_of, error_format};
 ghost use Rattle.ethernet.specs.Tables.{error_slots};
 
-use crate::event::{length_fault, put_event};
-use crate::frame::{Frame, get_frame};
-use headers::Fault;
+use crate::event::{length_fault, put_event, wrong_length};
+use crate::frame::Frame;
+use headers::{Fault, Header, Record};
 
 // The frame's fields, and the error code where a frame has reserved bytes.
 #[derive(Clone, Copy)]
@@ -18,23 +18,34 @@ pub struct FrameError {
     pub code: u32,
 }
 
-// What refuses the body of an error: 9.
-#[tactic(auto, unfolding(headers::specs::Form::body_fault, headers::specs::HeadTests::first))]
-pub fn error_fault(b: &[u8]) -> Result<(), Fault>
-    requires { structure_length ≤ length b.now }
-    ensures { tested result ≡ body_fault error_format b.now }
-{
-    length_fault(b)
-}
+impl Record for FrameError {
+    ghost LENGTH = { structure_length };
 
-// The error of a header and a body; `frame_view` gives the frame's bytes.
-pub fn get_error(h: headers::Header, b: &[u8]) -> FrameError
-    requires { structure_length ≤ length b.now }
-    ensures { result ≡ error_of h b.now }
-{
-    FrameError {
-        frame: get_frame(h, b),
-        code: fields::get32(b, 28),
+    ghost of = { error_of };
+
+    ghost gaps = { error_format.gaps };
+
+    ghost rules = { error_format.rules };
+
+    const LENGTH: usize = Frame::LENGTH;
+
+    fn get(h: Header, b: &[u8]) -> Self {
+        Self {
+            frame: Frame::get(h, b),
+            code: fields::get32(b, 28),
+        }
+    }
+
+    fn check(b: &[u8]) -> Result<(), Fault> {
+        length_fault(b)
+    }
+
+    fn wrong_byte(_o: &[u8], _head: usize) -> usize {
+        0
+    }
+
+    fn wrong_field(b: &[u8]) -> usize {
+        wrong_length(b)
     }
 }
 

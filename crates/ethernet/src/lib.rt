@@ -7,7 +7,6 @@ mod frame;
 mod frame_error;
 mod status;
 
-pub use event::wrong_length;
-pub use frame::{Frame, frame_fault, frame_view, frame_wrong_byte, get_frame, put_frame};
-pub use frame_error::{FrameError, error_fault, get_error, put_error};
-pub use status::{Status, get_status, put_status};
+pub use frame::{Frame, frame_view, put_frame};
+pub use frame_error::{FrameError, put_error};
+pub use status::Status;

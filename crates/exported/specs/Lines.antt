@@ -1,12 +1,13 @@
 -- ASC lines: what a C caller gets.
-use Rattle.std.specs.Prelude.{ℕ, List, length}
+use Rattle.std.specs.Prelude.{ℕ, Result, List, length}
+use Rattle.headers.specs.Refused.{Refused}
 use Rattle.outcomes.specs.Replies.{written_reply}
 use Rattle.outcomes.specs.Writes.{answer_of, buffer_of}
-use Rattle.asc_lines.specs.declared.reading.Reading.{Reading}
+use Rattle.asc_lines.specs.declared.told.Told.{Told}
 use Rattle.asc.specs.declared.at_cursor.LineStep.{LineStep}
 use Rattle.asc.specs.Writes.{text_of, refusal_of}
 use Rattle.asc.specs.Objects.{event_in}
-use Rattle.asc.specs.Replies.{line_reply, told_numbers, read_number}
+use Rattle.asc.specs.Replies.{line_reply, read_number, read_numbers}
 use Rattle.exported.specs.Replies.{Reply, reply, told_of}
 use Rattle.exported.specs.Records.{record_reply}
 
@@ -22,5 +23,5 @@ abbrev pub place_reply : LineStep → Reply
 place_reply s = record_reply (line_reply s.answer) 0 s.next.at
 
 -- a line read: the 24 numbers of what it tells, which are zeros where it is refused
-abbrev pub reading_reply : Reading → Reply
-reading_reply r = reply (read_number r.answer) (told_numbers r.told)
+abbrev pub reading_reply : Result Told Refused → Reply
+reading_reply r = reply (read_number r) (read_numbers r)

@@ -1,16 +1,12 @@
 // ASC lines: of an object given as its bytes, of the object at a position of a log, and a text read as one line.
 ghost use Rattle.std.specs.Prelude.{◌≡◌};
-ghost use Rattle.asc_lines.specs.Reading.{line_read};
+ghost use Rattle.asc.specs.Lines.{line_read};
 ghost use Rattle.asc.specs.Objects.{line_step, line_into};
-ghost use Rattle.asc.specs.Replies.{told_numbers, read_number};
 ghost use Rattle.exported.specs.Replies.{reply, lent, Filled};
 ghost use Rattle.exported.specs.Lines.{object_reply, object_into, place_reply, reading_reply};
 
 use crate::{DONE, ROOM, tell};
-use asc::LineAt;
-use asc_lines::{LineAnswer, Told};
 use objects::Cursor;
-use outcomes::Written;
 
 // Writes the line of an object's bytes to the front of `bytes`, by `asc::object_line`: 0 and how many bytes it has,
 // none for other types and for bytes that are no object; or the refusal and its place, 0.
@@ -23,8 +19,8 @@ pub extern "C" fn mshelovat_line(object: &[u8], bytes: &mut [u8], out: &mut [u64
         return ROOM;
     }
     match asc::object_line(object, bytes) {
-        Written::Used(n) => tell(out, 0, [n as u64]),
-        Written::Refused { number, place } => tell(out, number, [place as u64]),
+        Ok(n) => tell(out, 0, [n as u64]),
+        Err(refusal) => tell(out, refusal.number(), [refusal.place() as u64]),
     }
 }
 
@@ -42,52 +38,9 @@ pub extern "C" fn mshelovat_line_at(log: &[u8], at: usize, bytes: &mut [u8], out
     let step = asc::line_at(log, Cursor { at }, bytes);
     let on = step.next.at as u64;
     match step.answer {
-        LineAt::Line(n) => tell(out, 0, [n as u64, on]),
-        LineAt::Done => tell(out, DONE, [0, on]),
-        LineAt::Refused { number, place } => tell(out, number, [place as u64, on]),
-    }
-}
-
-// All that is told, number by number.
-fn numbers(t: Told) -> [u64; 24]
-    ensures { result ≡ told_numbers t }
-{
-    let f = t.frame;
-    let c = t.counts;
-    [
-        t.kind as u64,
-        t.head.seconds,
-        t.head.nanos as u64,
-        t.head.channel as u64,
-        f.id as u64,
-        f.extended as u64,
-        f.sent as u64,
-        f.remote as u64,
-        f.dlc as u64,
-        f.bytes[0] as u64,
-        f.bytes[1] as u64,
-        f.bytes[2] as u64,
-        f.bytes[3] as u64,
-        f.bytes[4] as u64,
-        f.bytes[5] as u64,
-        f.bytes[6] as u64,
-        f.bytes[7] as u64,
-        c.load as u64,
-        c.standard_data as u64,
-        c.extended_data as u64,
-        c.standard_remote as u64,
-        c.extended_remote as u64,
-        c.errors as u64,
-        c.overloads as u64,
-    ]
-}
-
-fn read_number(answer: LineAnswer) -> u32
-    ensures { result ≡ read_number answer }
-{
-    match answer {
-        LineAnswer::Line => 0,
-        LineAnswer::Refused { number, place: _ } => number,
+        Ok(Some(n)) => tell(out, 0, [n as u64, on]),
+        Ok(None) => tell(out, DONE, [0, on]),
+        Err(refusal) => tell(out, refusal.number(), [refusal.place() as u64, on]),
     }
 }
 
@@ -96,6 +49,8 @@ fn read_number(answer: LineAnswer) -> u32
 pub extern "C" fn mshelovat_read_line(text: &[u8], out: &mut [u64]) -> u32
     ensures { reply result out.new ≡ lent (reading_reply (line_read text.now)) out.old }
 {
-    let r = asc::read_line(text);
-    tell(out, read_number(r.answer), numbers(r.told))
+    match asc::read_line(text) {
+        Ok(told) => tell(out, 0, asc::told_numbers(told)),
+        Err(refusal) => tell(out, refusal.number(), [0; 24]),
+    }
 }

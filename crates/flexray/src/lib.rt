@@ -4,7 +4,4 @@
 
 mod receive;
 
-pub use receive::{
-    Receive, counts_ok, get_receive, put_receive, receive_fault, receive_wrong_byte,
-    receive_wrong_field,
-};
+pub use receive::Receive;

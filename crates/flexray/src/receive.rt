@@ -1,19 +1,18 @@
 // FlexRay receive, type 50. A body is what stands behind the header: its offsets count from the header's end.
-ghost use Rattle.std.specs.Prelude.{◌≡◌, ◌+◌, ◌≤◌, length};
+#![tactic(auto, using(crate::proofs::Laws::receive_length), unfolding(crate::specs::Fields::receive_of, crate::specs::Fields::counts_ok, headers::specs::HeadTests::first))]
+
+ghost use Rattle.std.specs.Prelude.{◌≡◌, true, refl, ◌+◌, ◌≤◌, length};
 ghost use Rattle.fields.specs.Written.{Wrote};
 ghost use Rattle.fields.specs.Slots.{bytes_of};
-ghost use Rattle.fields.specs.Rules.{shifted};
-ghost use Rattle.fields.specs.Wrong.{wrong_byte, wrong_field};
-ghost use Rattle.headers.specs.Faults.{tested};
-ghost use Rattle.headers.specs.Form.{body_fault};
+ghost use Rattle.headers.specs.declared.kind.Kind.TheVariants as code;
 ghost use Rattle.flexray.specs.Tables.{origin_slots, slot_slots, controller_slots, receive_slots};
 ghost use Rattle.flexray.specs.Fields.{receive_of, counts_ok, receive_format};
 
-use headers::Fault;
+use headers::{Fault, Header, Kind, Record, Whole};
 
 #[derive(Clone, Copy)]
 pub struct Receive {
-    pub header: headers::Header,
+    pub header: Header,
     pub channel: u16,
     pub version: u16,
     pub mask: u16,
@@ -36,70 +35,101 @@ pub struct Receive {
 }
 
 // Test 9, for reader and writer: whether the data count is above neither 254 nor the byte count.
-#[tactic(auto, unfolding(crate::specs::Fields::counts_ok))]
-pub fn counts_ok(total: u16, stored: u16) -> bool
+fn counts_ok(total: u16, stored: u16) -> bool
     ensures { result ≡ counts_ok total stored }
 {
     stored <= 254 && stored <= total
 }
 
-// What refuses the body of a receive event: 8 or 9.
-#[tactic(auto, unfolding(headers::specs::Form::body_fault, headers::specs::HeadTests::first))]
-pub fn receive_fault(b: &[u8]) -> Result<(), Fault>
-    requires { 298 ≤ length b.now }
-    ensures { tested result ≡ body_fault receive_format b.now }
-{
-    if !fields::all_zero(b, 7, 1) || !fields::all_zero(b, 27, 1) || !fields::all_zero(b, 40, 4) {
-        return Err(Fault::Reserved);
+impl Record for Receive {
+    ghost LENGTH = { 298 };
+
+    ghost of = { receive_of };
+
+    ghost gaps = { receive_format.gaps };
+
+    ghost rules = { receive_format.rules };
+
+    const LENGTH: usize = 298;
+
+    fn get(h: Header, b: &[u8]) -> Self {
+        Self {
+            header: h,
+            channel: fields::get16(b, 0),
+            version: fields::get16(b, 2),
+            mask: fields::get16(b, 4),
+            direction: fields::get8(b, 6),
+            client: fields::get32(b, 8),
+            cluster: fields::get32(b, 12),
+            id: fields::get16(b, 16),
+            crca: fields::get16(b, 18),
+            crcb: fields::get16(b, 20),
+            total: fields::get16(b, 22),
+            stored: fields::get16(b, 24),
+            cycle: fields::get8(b, 26),
+            tag: fields::get32(b, 28),
+            state: fields::get32(b, 32),
+            flags: fields::get32(b, 36),
+            bytes: fields::get_bytes(b, 44),
+        }
     }
-    if !counts_ok(fields::get16(b, 22), fields::get16(b, 24)) {
-        return Err(Fault::Content);
+
+    fn check(b: &[u8]) -> Result<(), Fault> {
+        if !fields::all_zero(b, 7, 1)
+            || !fields::all_zero(b, 27, 1)
+            || !fields::all_zero(b, 40, 4)
+        {
+            return Err(Fault::Reserved);
+        }
+        if !counts_ok(fields::get16(b, 22), fields::get16(b, 24)) {
+            return Err(Fault::Content);
+        }
+        Ok(())
     }
-    Ok(())
+
+    fn wrong_byte(o: &[u8], head: usize) -> usize {
+        let reserved = fields::wrong_byte(o, head + 40, 4, 0);
+        let after_cycle = fields::wrong_byte(o, head + 27, 1, reserved);
+        fields::wrong_byte(o, head + 7, 1, after_cycle)
+    }
+
+    fn wrong_field(b: &[u8]) -> usize {
+        fields::wrong_field(counts_ok(fields::get16(b, 22), fields::get16(b, 24)), 24, 0)
+    }
 }
 
-// The place of the first reserved byte that is not zero, or 0, in an object whose header is so long.
-pub fn receive_wrong_byte(o: &[u8], head: usize) -> usize
-    requires { head + 298 ≤ length o.now }
-    ensures { result ≡ wrong_byte (shifted head receive_format.gaps) o.now 0 }
-{
-    let reserved = fields::wrong_byte(o, head + 40, 4, 0);
-    let after_cycle = fields::wrong_byte(o, head + 27, 1, reserved);
-    fields::wrong_byte(o, head + 7, 1, after_cycle)
-}
+impl Whole for Receive {
+    ghost KIND = { code.FlexRayReceive };
 
-// The place in a body of the data count where it is above 254 or the byte count; else 0.
-pub fn receive_wrong_field(b: &[u8]) -> usize
-    requires { 298 ≤ length b.now }
-    ensures { result ≡ wrong_field (receive_format.rules b.now) }
-{
-    fields::wrong_field(counts_ok(fields::get16(b, 22), fields::get16(b, 24)), 24, 0)
-}
+    ghost header = { receive_format.header };
 
-// The record of a header and a body.
-pub fn get_receive(h: headers::Header, b: &[u8]) -> Receive
-    requires { 298 ≤ length b.now }
-    ensures { result ≡ receive_of h b.now }
-{
-    let bytes = fields::get_bytes(b, 44);
-    Receive {
-        header: h,
-        channel: fields::get16(b, 0),
-        version: fields::get16(b, 2),
-        mask: fields::get16(b, 4),
-        direction: fields::get8(b, 6),
-        client: fields::get32(b, 8),
-        cluster: fields::get32(b, 12),
-        id: fields::get16(b, 16),
-        crca: fields::get16(b, 18),
-        crcb: fields::get16(b, 20),
-        total: fields::get16(b, 22),
-        stored: fields::get16(b, 24),
-        cycle: fields::get8(b, 26),
-        tag: fields::get32(b, 28),
-        state: fields::get32(b, 32),
-        flags: fields::get32(b, 36),
-        bytes,
+    ghost body = { bytes_of receive_slots };
+
+    ghost content = { receive_format.content };
+
+    ghost writable = { λ r. true };
+
+    ghost may_write = { λ r _. refl };
+
+    const KIND: Kind = Kind::FlexRayReceive;
+
+    fn header(self) -> Header {
+        self.header
+    }
+
+    fn length(self) -> usize {
+        Self::LENGTH
+    }
+
+    fn content(self) -> bool {
+        counts_ok(self.total, self.stored)
+    }
+
+    fn put(self, out: &mut [u8], at: usize) {
+        put_origin(out, at, self);
+        put_slot(out, at, self);
+        put_controller(out, at, self);
+        fields::put_bytes(out, at + 44, &self.bytes);
     }
 }
 
@@ -138,16 +168,4 @@ fn put_controller(out: &mut [u8], at: usize, r: Receive)
     fields::put32(out, at + 32, r.state);
     fields::put32(out, at + 36, r.flags);
     fields::put_zeros(out, at + 40, 4);
-}
-
-// The body of a receive event, written at a place.
-pub fn put_receive(out: &mut [u8], at: usize, r: Receive)
-    requires { at + 298 ≤ length out.old }
-    ensures { Wrote at (bytes_of receive_slots r) out.old out.new }
-{
-    let bytes = r.bytes;
-    put_origin(out, at, r);
-    put_slot(out, at, r);
-    put_controller(out, at, r);
-    fields::put_bytes(out, at + 44, &bytes);
 }

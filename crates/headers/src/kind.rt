@@ -1,9 +1,8 @@
 // The thirteen types, with their numbers and sizes. Any other type is foreign.
 ghost use Rattle.std.specs.Prelude.{◌≡◌, ◌+◌};
 ghost use Rattle.headers.specs.Format.{first_length};
-ghost use Rattle.headers.specs.Types.{number_of};
 ghost use Rattle.headers.specs.Rows.{row_of, allowed};
-ghost use Rattle.headers.specs.Named.{kind_of, Names};
+ghost use Rattle.headers.specs.Named.{type_number, Names};
 
 use crate::header::Header;
 
@@ -48,14 +47,14 @@ impl Kind {
     }
 
     pub fn number(self) -> u32
-        ensures { result ≡ number_of (kind_of self) }
+        ensures { result ≡ type_number self }
     {
         self as u32
     }
 
     // Whether its objects may have a size, under the first header.
     pub fn allows(self, size: u32) -> bool
-        ensures { result ≡ allowed (row_of (number_of (kind_of self))) size }
+        ensures { result ≡ allowed (row_of (type_number self)) size }
     {
         match self {
             Kind::CanMessage | Kind::EthernetStatus => size == 48,
@@ -75,7 +74,7 @@ impl Kind {
 
     // Whether its objects may have a body of `n` bytes, whatever the header before it.
     pub fn allows_body(self, n: usize) -> bool
-        ensures { result ≡ allowed (row_of (number_of (kind_of self))) (first_length + n) }
+        ensures { result ≡ allowed (row_of (type_number self)) (first_length + n) }
     {
         n <= Header::MOST - Header::FIRST_LENGTH && self.allows((Header::FIRST_LENGTH + n) as u32)
     }

@@ -7,8 +7,6 @@ mod message;
 mod tail;
 mod wake_up;
 
-pub use message::{
-    Message, get_message, message_fault, message_wrong_byte, message_wrong_field, put_message,
-};
-pub use tail::{Tail, tail_length, tail_ok};
-pub use wake_up::{WakeUp, get_wake_up, put_wake_up, wake_up_fault, wake_up_wrong_byte};
+pub use message::Message;
+pub use tail::Tail;
+pub use wake_up::WakeUp;

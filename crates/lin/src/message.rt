@@ -1,22 +1,20 @@
 // The LIN message, type 57.
-ghost use Rattle.std.specs.Prelude.{◌≡◌, true, ◌+◌, ◌≤◌, length};
+#![tactic(auto, using(crate::proofs::SizeLaws::message_length, crate::proofs::TailLaws::tail_short), unfolding(crate::specs::Fields::message_of, headers::specs::HeadTests::first))]
+
+ghost use Rattle.std.specs.Prelude.{true, refl, ◌+◌, ◌≤◌, length};
 ghost use Rattle.fields.specs.Written.{Wrote};
 ghost use Rattle.fields.specs.Slots.{bytes_of};
-ghost use Rattle.fields.specs.Rules.{shifted};
-ghost use Rattle.fields.specs.Wrong.{wrong_byte, wrong_field};
-ghost use Rattle.headers.specs.Faults.{tested};
-ghost use Rattle.headers.specs.Form.{body_fault};
-ghost use Rattle.lin.specs.Tail.{tail};
+ghost use Rattle.headers.specs.declared.kind.Kind.TheVariants as code;
 ghost use Rattle.lin.specs.Tables.{synch_slots, descriptor_slots, status_slots, machine_slots, message_slots};
-ghost use Rattle.lin.specs.Fields.{tail_ok, message_of, message_format};
+ghost use Rattle.lin.specs.Fields.{message_of, message_format};
 
 use crate::bus::put_bus;
-use crate::tail::{Tail, get_tail, put_tail, tail_ok};
-use headers::Fault;
+use crate::tail::{Tail, get_tail, put_tail, tail_length, tail_ok};
+use headers::{Fault, Header, Kind, Record, Whole};
 
 #[derive(Clone, Copy)]
 pub struct Message {
-    pub header: headers::Header,
+    pub header: Header,
     pub start: u64,
     pub baud: u32,
     pub channel: u16,
@@ -41,70 +39,100 @@ pub struct Message {
     pub tail: Tail,
 }
 
-// What refuses the body of a message: 8 or 9.
-#[tactic(auto, unfolding(headers::specs::Form::body_fault, headers::specs::HeadTests::first))]
-pub fn message_fault(b: &[u8]) -> Result<(), Fault>
-    requires { 132 ≤ length b.now }
-    ensures { tested result ≡ body_fault message_format b.now }
-{
-    if !fields::all_zero(b, 14, 2) || !fields::all_zero(b, 129, 3) {
-        return Err(Fault::Reserved);
+impl Record for Message {
+    ghost LENGTH = { 132 };
+
+    ghost of = { message_of };
+
+    ghost gaps = { message_format.gaps };
+
+    ghost rules = { message_format.rules };
+
+    const LENGTH: usize = 132;
+
+    fn get(h: Header, b: &[u8]) -> Self {
+        Self {
+            header: h,
+            start: fields::get64(b, 0),
+            baud: fields::get32(b, 8),
+            channel: fields::get16(b, 12),
+            breaking: fields::get64(b, 16),
+            delimiter: fields::get64(b, 24),
+            supplier: fields::get16(b, 32),
+            message: fields::get16(b, 34),
+            nad: fields::get8(b, 36),
+            id: fields::get8(b, 37),
+            dlc: fields::get8(b, 38),
+            model: fields::get8(b, 39),
+            stamps: fields::get_numbers(b, 40),
+            bytes: fields::get_bytes(b, 112),
+            checksum: fields::get16(b, 120),
+            direction: fields::get8(b, 122),
+            simulated: fields::get8(b, 123),
+            triggered: fields::get8(b, 124),
+            index: fields::get8(b, 125),
+            associated: fields::get8(b, 126),
+            machine: fields::get8(b, 127),
+            state: fields::get8(b, 128),
+            tail: get_tail(b),
+        }
     }
-    if !tail_ok(get_tail(b)) {
-        return Err(Fault::Content);
+
+    fn check(b: &[u8]) -> Result<(), Fault> {
+        if !fields::all_zero(b, 14, 2) || !fields::all_zero(b, 129, 3) {
+            return Err(Fault::Reserved);
+        }
+        if !tail_ok(get_tail(b)) {
+            return Err(Fault::Content);
+        }
+        Ok(())
     }
-    Ok(())
+
+    fn wrong_byte(o: &[u8], head: usize) -> usize {
+        let late = fields::wrong_byte(o, head + 129, 3, 0);
+        fields::wrong_byte(o, head + 14, 2, late)
+    }
+
+    fn wrong_field(b: &[u8]) -> usize {
+        fields::wrong_field(tail_ok(get_tail(b)), 136, 0)
+    }
 }
 
-// The place of the first reserved byte that is not zero, or 0, in an object whose header is so long.
-pub fn message_wrong_byte(o: &[u8], head: usize) -> usize
-    requires { head + 132 ≤ length o.now }
-    ensures { result ≡ wrong_byte (shifted head message_format.gaps) o.now 0 }
-{
-    let late = fields::wrong_byte(o, head + 129, 3, 0);
-    fields::wrong_byte(o, head + 14, 2, late)
-}
+impl Whole for Message {
+    ghost KIND = { code.LinMessage };
 
-// The place in a body of the exact rate where it is wrong; else 0.
-pub fn message_wrong_field(b: &[u8]) -> usize
-    requires { 132 ≤ length b.now }
-    ensures { result ≡ wrong_field (message_format.rules b.now) }
-{
-    fields::wrong_field(tail_ok(get_tail(b)), 136, 0)
-}
+    ghost header = { message_format.header };
 
-// The message of a header and a body.
-pub fn get_message(h: headers::Header, b: &[u8]) -> Message
-    requires { 132 ≤ length b.now }
-    ensures { result ≡ message_of h b.now }
-{
-    let stamps = fields::get_numbers(b, 40);
-    let bytes = fields::get_bytes(b, 112);
-    let tail = get_tail(b);
-    Message {
-        header: h,
-        start: fields::get64(b, 0),
-        baud: fields::get32(b, 8),
-        channel: fields::get16(b, 12),
-        breaking: fields::get64(b, 16),
-        delimiter: fields::get64(b, 24),
-        supplier: fields::get16(b, 32),
-        message: fields::get16(b, 34),
-        nad: fields::get8(b, 36),
-        id: fields::get8(b, 37),
-        dlc: fields::get8(b, 38),
-        model: fields::get8(b, 39),
-        stamps,
-        bytes,
-        checksum: fields::get16(b, 120),
-        direction: fields::get8(b, 122),
-        simulated: fields::get8(b, 123),
-        triggered: fields::get8(b, 124),
-        index: fields::get8(b, 125),
-        associated: fields::get8(b, 126),
-        machine: fields::get8(b, 127),
-        state: fields::get8(b, 128),
-        tail,
+    ghost body = { bytes_of message_slots };
+
+    ghost content = { message_format.content };
+
+    ghost writable = { message_format.content };
+
+    ghost may_write = { λ r e. e };
+
+    const KIND: Kind = Kind::LinMessage;
+
+    fn header(self) -> Header {
+        self.header
+    }
+
+    fn length(self) -> usize {
+        Self::LENGTH + tail_length(self.tail)
+    }
+
+    fn content(self) -> bool {
+        tail_ok(self.tail)
+    }
+
+    fn put(self, out: &mut [u8], at: usize) {
+        put_synch(out, at, self);
+        put_descriptor(out, at + 32, self);
+        fields::put_numbers(out, at + 40, self.stamps);
+        fields::put_bytes(out, at + 112, &self.bytes);
+        put_status(out, at + 120, self);
+        put_machines(out, at + 127, self);
+        put_tail(out, at + 132, self.tail);
     }
 }
 
@@ -148,21 +176,4 @@ fn put_machines(out: &mut [u8], at: usize, r: Message)
     fields::put8(out, at, r.machine);
     fields::put8(out, at + 1, r.state);
     fields::put_zeros(out, at + 2, 3);
-}
-
-// The body of a message, written at a place; its tail is one that `tail_ok` lets through.
-pub fn put_message(out: &mut [u8], at: usize, r: Message)
-    requires { (at + 132 + length (tail r.tail) ≤ length out.old) × (tail_ok r.tail ≡ true) }
-    ensures { Wrote at (bytes_of message_slots r) out.old out.new }
-{
-    let stamps = r.stamps;
-    let bytes = r.bytes;
-    let tail = r.tail;
-    put_synch(out, at, r);
-    put_descriptor(out, at + 32, r);
-    fields::put_numbers(out, at + 40, stamps);
-    fields::put_bytes(out, at + 112, &bytes);
-    put_status(out, at + 120, r);
-    put_machines(out, at + 127, r);
-    put_tail(out, at + 132, tail);
 }

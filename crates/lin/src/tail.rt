@@ -20,7 +20,7 @@ pub enum Tail {
 }
 
 // The bytes that a tail takes.
-pub fn tail_length(t: Tail) -> usize
+pub(crate) fn tail_length(t: Tail) -> usize
     ensures { result ≡ length (tail t) }
 {
     match t {
@@ -41,7 +41,7 @@ fn rate_ok(exact: f64) -> bool
 }
 
 // Whether a tail may be written: its exact rate, where it has one, is finite with its sign bit clear.
-pub fn tail_ok(t: Tail) -> bool
+pub(crate) fn tail_ok(t: Tail) -> bool
     ensures { result ≡ tail_ok t }
 {
     match t {

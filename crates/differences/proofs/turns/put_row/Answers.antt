@@ -1,6 +1,7 @@
 -- `differences::turns::put_row` meets its contract: its place lies in each slice. Assumes nothing.
 use borrow.Author.Rules.{rules}
 use Rattle.differences.specs.Columns.{columns}
+use Rattle.differences.specs.Turns.{number_of}
 use Rattle.differences.proofs.Rooms.{inside, row_put}
 use Rattle.differences.proofs.turns.put_row.Goals as goal
 
@@ -31,4 +32,5 @@ bounds-kinds-i c = (inside c.requires).kinds
 pub returns : goal.returns
 returns c =
     let a = c.args in
-    row_put a.i a.n a.a a.b a.kind (columns a.numbers.now a.firsts.now a.seconds.now a.kinds.now)
+    let r = a.r in
+    rw c.number.ensures (row_put a.i r.number r.first r.second (number_of r.kind) (columns a.numbers.now a.firsts.now a.seconds.now a.kinds.now))

@@ -1,7 +1,6 @@
--- `fields::put16` meets its contract: two writes side by side are one. Assumes nothing.
-use Rattle.fields.proofs.Halves.{put_both}
+-- `fields::put16` meets its contract: the library's bytes, written. Assumes nothing.
+use Rattle.fields.proofs.Halves.{le_low_first}
 use Rattle.fields.proofs.little.put16.Goals as goal
 
 pub returns : goal.returns
-returns c =
-    put_both 1 1 c.args.v c.put8.ensures c.put8-2.ensures
+returns c = rw (← le_low_first 2 c.args.v, ← c.to_le_bytes.ensures) c.put_bytes.ensures

@@ -1,7 +1,6 @@
--- `fields::put64` meets its contract: two writes side by side are one. Assumes nothing.
-use Rattle.fields.proofs.Halves.{put_both}
+-- `fields::put64` meets its contract: the library's bytes, written. Assumes nothing.
+use Rattle.fields.proofs.Halves.{le_low_first}
 use Rattle.fields.proofs.little.put64.Goals as goal
 
 pub returns : goal.returns
-returns c =
-    put_both 4 4 c.args.v c.put32.ensures c.put32-2.ensures
+returns c = rw (← le_low_first 8 c.args.v, ← c.to_le_bytes.ensures) c.put_bytes.ensures

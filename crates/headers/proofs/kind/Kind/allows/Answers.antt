@@ -1,7 +1,6 @@
 -- `headers::Kind::allows` meets its contract: each type's sizes are those of its row. Assumes nothing.
-use mathlib.Core.Path.{◌≡◌}
 use mathlib.Core.Logic.{⊎_elim}
-use Prim.Native.Nat.{ℕ}
+use borrow.Author.Rules.{rules}
 use native.Mathlib.Omega.{arith}
 use Rattle.headers.specs.Types.{type_list}
 use Rattle.headers.specs.Rows.{row_in}
@@ -38,7 +37,7 @@ returns-in-CanFdMessage c = rw c.in-CanFdMessage.is (only_allowed 100 c.args.siz
 
 pub returns-in-164 : goal.returns-in-164
 unfolding type_list row_in
-returns-in-164 c = rw c.in-LinMessage.is (one_here 57 c.args.size 164 168 184 c.in-164.is)
+returns-in-164 c = rw c.in-LinMessage.is (one_here 57 c.args.size 164 168 184 (search rules))
 
 pub returns-in_default : goal.returns-in_default
 unfolding type_list row_in

@@ -1,7 +1,6 @@
 -- `headers::Kind::of` meets its contract: a number that is no type's own has the foreign row. Assumes nothing.
-use mathlib.Core.Path.{◌≡◌, sym, ap}
+use mathlib.Core.Path.{sym, ap}
 use mathlib.Core.List.{[]}
-use Prim.Native.Nat.{ℕ}
 use native.Mathlib.Omega.{arith}
 use Rattle.headers.specs.Types.{type_list}
 use Rattle.headers.specs.Rows.{row_in, listed}
