@@ -5,7 +5,7 @@ ghost use Rattle.std.specs.Prelude.{◌≤◌, ◌≡◌, length};
 use crate::stream::{LIMIT, put_all};
 use headers::Origin;
 use std::array;
-use tray::{Common, TrayAnswer, Trayed};
+use tray::{Common, Trayed};
 
 fn origin_of(first: &[u8]) -> Origin
     requires { 120 ≡ length first.now }
@@ -49,12 +49,10 @@ fn stamps_of(first: &[u8]) -> [u64; 8]
 }
 
 fn told_of(t: Trayed) -> [u64; 5] {
-    let answer = t.answer;
-    match answer {
-        TrayAnswer::All => [11, t.written as u64, 0, 0, 0],
-        TrayAnswer::Refused { number, place } => {
-            [11, t.written as u64, number as u64, place as u64, 0]
-        }
+    let written = t.written as u64;
+    match t.answer {
+        Ok(()) => [11, written, 0, 0, 0],
+        Err(refusal) => [11, written, refusal.number() as u64, refusal.place() as u64, 0],
     }
 }
 
