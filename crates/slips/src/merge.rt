@@ -4,7 +4,7 @@ ghost use Rattle.slips.specs.Cut.{entries_in};
 ghost use Rattle.slips.specs.Inner.Rests.{slips_at};
 ghost use Rattle.slips.specs.Inner.Merge.{compare_of, moved_of, hits_of, low_of, trouble_at, refused_by};
 
-use crate::bundle::SLIPS;
+use crate::bundle::Slips;
 use headers::{Fault, Refusal};
 use objects::Entry;
 
@@ -19,7 +19,7 @@ pub enum Compared {
 // The slips moved past an object: how many named it, and the lowest start of a stray.
 #[derive(Clone, Copy)]
 pub struct Merged<'a> {
-    pub slips: [&'a [u8]; SLIPS],
+    pub slips: Slips<'a>,
     pub hits: u32,
     pub low: Option<usize>,
 }
@@ -61,30 +61,32 @@ fn compare(slip: &[u8], object: Entry) -> Compared
     Compared::Stray(start)
 }
 
-// The slips, each moved past its entry of this object.
-pub(crate) fn advance<'a>(slips: [&'a [u8]; SLIPS], object: Entry) -> Merged<'a>
-    ensures moved { slips_at result.slips ≡ moved_of object (slips_at slips.entry) }
-    ensures hit { result.hits ≡ hits_of object (slips_at slips.entry) }
-    ensures lowest { result.low ≡ low_of object (slips_at slips.entry) }
-{
-    let mut out = slips;
-    let mut hits = 0;
-    let mut low = None;
-    for slip in &mut out {
-        match compare(*slip, object) {
-            Compared::Miss => {}
-            Compared::Hit => {
-                hits += 1;
-                *slip = &slip[12..];
-            }
-            Compared::Stray(start) => {
-                low = Some(low.map_or(start, |least: usize| least.min(start)));
+impl<'a> Slips<'a> {
+    // The slips, each moved past its entry of this object.
+    pub fn advance(self, object: Entry) -> Merged<'a>
+        ensures moved { slips_at result.slips ≡ moved_of object (slips_at self.entry) }
+        ensures hit { result.hits ≡ hits_of object (slips_at self.entry) }
+        ensures lowest { result.low ≡ low_of object (slips_at self.entry) }
+    {
+        let mut rests = self.rests;
+        let mut hits = 0;
+        let mut low = None;
+        for rest in &mut rests {
+            match compare(*rest, object) {
+                Compared::Miss => {}
+                Compared::Hit => {
+                    hits += 1;
+                    *rest = &rest[12..];
+                }
+                Compared::Stray(start) => {
+                    low = Some(low.map_or(start, |least: usize| least.min(start)));
+                }
             }
         }
-    }
-    Merged {
-        slips: out,
-        hits,
-        low,
+        Merged {
+            slips: Slips { rests },
+            hits,
+            low,
+        }
     }
 }

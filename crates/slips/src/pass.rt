@@ -4,8 +4,7 @@ ghost use Rattle.slips.specs.Check.{check_of};
 ghost use Rattle.slips.specs.Inner.Rests.{slips_at};
 ghost use Rattle.slips.specs.Inner.Pass.{at_end_of, merge_log_of};
 
-use crate::bundle::{SLIPS, Slips};
-use crate::merge::advance;
+use crate::bundle::Slips;
 use headers::{Fault, Refusal};
 use objects::{Cursor, Entry};
 
@@ -21,17 +20,17 @@ const END: Entry = Entry {
 
 // Behind the last of n objects: an entry that is left is stray.
 #[tactic(auto, unfolding(crate::specs::Inner::Pass::at_end_of))]
-fn at_end(slips: [&[u8]; SLIPS], n: usize) -> Result<usize, Refusal>
+fn at_end(slips: Slips<'_>, n: usize) -> Result<usize, Refusal>
     ensures { result ≡ at_end_of (slips_at slips.entry) n }
 {
-    match advance(slips, END).low {
+    match slips.advance(END).low {
         Some(start) => Err(Fault::Stray.at(start)),
         None => Ok(n),
     }
 }
 
 // The walk and the merge together: how many objects there are, or the first refusal.
-fn merge_log(log: &[u8], slips: [&[u8]; SLIPS]) -> Result<usize, Refusal>
+fn merge_log(log: &[u8], slips: Slips<'_>) -> Result<usize, Refusal>
     ensures { result ≡ merge_log_of log.now (slips_at slips.entry) }
 {
     let mut c = Cursor::new();
@@ -42,7 +41,7 @@ fn merge_log(log: &[u8], slips: [&[u8]; SLIPS]) -> Result<usize, Refusal>
         let Some(object) = step.answer? else {
             return at_end(rest, n);
         };
-        let merged = advance(rest, object);
+        let merged = rest.advance(object);
         if let Some(trouble) = merged.trouble(object.start) {
             // It is told where the log behind it is well formed.
             step.next.walk(log)?;
@@ -63,7 +62,7 @@ pub fn check(log: &[u8], bundle: &[u8]) -> Result<usize, Refusal>
         return Err(Fault::Long.at(0));
     }
     match Slips::read(bundle) {
-        Ok(slips) => merge_log(log, slips.rests),
+        Ok(slips) => merge_log(log, slips),
         Err(refusal) => Err(refusal),
     }
 }

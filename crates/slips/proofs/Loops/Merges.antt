@@ -14,7 +14,7 @@ use Rattle.objects.specs.Rising.{Above, Rising}
 use Rattle.slips.specs.Right.{times_all}
 use Rattle.slips.specs.Trouble.{StrayAt, TwiceAt, UnlistedAt, InTrouble, Trouble, None, Found, First}
 use Rattle.slips.specs.Soonest.{trouble_of}
-use Rattle.slips.specs.Inner.Merge.{past, the_end, moved_of, hits_of, or_later, merge_of}
+use Rattle.slips.specs.Inner.Merge.{the_end, moved_of, hits_of, or_later, merge_of}
 use Rattle.slips.proofs.Trouble.Entries.{start_same, in_above}
 use Rattle.slips.proofs.Trouble.Least.{Before, before_le, one_least}
 use Rattle.slips.proofs.Trouble.Troubles.{trouble_is_first}

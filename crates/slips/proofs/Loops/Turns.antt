@@ -2,7 +2,7 @@
 -- nothing.
 use mathlib.Core.Path.{◌≡◌, refl, sym, ap, ap₂, ◌∙◌}
 use mathlib.Core.List.{List, [], ◌∷◌, ◌++◌, append-nil}
-use Prim.Native.Nat.{ℕ, zero, suc, ◌+◌, ◌<◌, ◌≤◌, min}
+use Prim.Native.Nat.{ℕ, suc, ◌+◌, ◌<◌, ◌≤◌, min}
 use native.Mathlib.Omega.{arith}
 use native.Mathlib.Numerals.{add-one}
 use lib.ListN.{length, get_or, get_or-map, take, drop, set, drop_of_length-le}
@@ -15,7 +15,7 @@ use Rattle.objects.specs.declared.Entry.{Entry}
 use Rattle.slips.specs.declared.merge.Compared.{Compared}
 use Rattle.slips.specs.declared.merge.Compared.TheVariants.{Miss, Hit, Stray}
 use Rattle.slips.specs.Cut.{slip_limit}
-use Rattle.slips.specs.Inner.Rests.{slip_at, slips_at}
+use Rattle.slips.specs.Inner.Rests.{slip_at, slips_in}
 use Rattle.slips.specs.Inner.Merge.{compare_of, move, moved_of, hit_of, hits_of, lower, low_of}
 
 one_hit : (e : Compared) → hit_of e ≤ 1
@@ -60,9 +60,6 @@ module _ (o : Entry) where
     pub few : hits ≤ i
     pub lowest : low ≡ low_of o (take i out₀)
 
-  pub turning_none : (out₀ : List (List Entry)) → Turning out₀ out₀ 0 opt.None 0
-  turning_none out₀ = record { within = omega arith; moved = refl; hit = refl; few = omega arith; lowest = refl }
-
   module _ (out₀ out : List (List Entry)) (hits : ℕ) (low : Option ℕ) (i : ℕ) (l : i < slip_limit) (len : length out₀ ≡ slip_limit) (m : Turning out₀ out hits low i) where
     abbrev here : List Entry
     here = get_or out₀ i []
@@ -98,16 +95,9 @@ module _ (o : Entry) where
         }
 
   -- the same of the parts of the bundle
-  pub turn_at : (rs₀ rs : List (Bor (List ℕ))) {hits : ℕ} {low : Option ℕ} {i : ℕ} → i < slip_limit → length rs₀ ≡ slip_limit → Turning (slips_at rs₀) (slips_at rs) hits low i
+  pub turn_at : (rs₀ rs : List (Bor (List ℕ))) {hits : ℕ} {low : Option ℕ} {i : ℕ} → i < slip_limit → length rs₀ ≡ slip_limit → Turning (slips_in rs₀) (slips_in rs) hits low i
       → (d : Bor (List ℕ)) → slip_at d ≡ [] → (e : Compared) → compare_of o (slip_at (get_or rs i d)) ≡ e → (x : Bor (List ℕ)) → slip_at x ≡ move e (slip_at (get_or rs i d))
-      → {hits' : ℕ} → hits' ≡ hits + hit_of e → {low' : Option ℕ} → low' ≡ lower e low → Turning (slips_at rs₀) (slips_at (set rs i x)) hits' low' (i + 1)
+      → {hits' : ℕ} → hits' ≡ hits + hit_of e → {low' : Option ℕ} → low' ≡ lower e low → Turning (slips_in rs₀) (slips_in (set rs i x)) hits' low' (i + 1)
   turn_at rs₀ rs {hits} {low} {i} l len m d n e c x z a b =
-      let q : slip_at (get_or rs i d) ≡ get_or (slips_at rs) i [] = sym (rw n at (get_or-map slip_at rs i d)) in
-      rw (map-set slip_at rs i x, z, q) (turn (slips_at rs₀) (slips_at rs) hits low i l (length-map rs₀ slip_at ∙ len) m e (rw q at c) a b)
-
-  pub turned_all : (out₀ out : List (List Entry)) (hits : ℕ) (low : Option ℕ) → length out₀ ≡ slip_limit → Turning out₀ out hits low slip_limit
-      → (out ≡ moved_of o out₀) × (hits ≡ hits_of o out₀) × (low ≡ low_of o out₀)
-  turned_all out₀ out hits low len m =
-      let t : take slip_limit out₀ ≡ out₀ = take_all slip_limit out₀ (omega arith) in
-      let d : drop slip_limit out₀ ≡ [] = drop_of_length-le out₀ {i = slip_limit} (omega arith) in
-      (m.moved ∙ rw (t, d) (append-nil (moved_of o out₀)), m.hit ∙ rw t, m.lowest ∙ rw t)
+      let q : slip_at (get_or rs i d) ≡ get_or (slips_in rs) i [] = sym (rw n at (get_or-map slip_at rs i d)) in
+      rw (map-set slip_at rs i x, z, q) (turn (slips_in rs₀) (slips_in rs) hits low i l (length-map rs₀ slip_at ∙ len) m e (rw q at c) a b)

@@ -12,12 +12,15 @@ use Rattle.slips.specs.Right.{entries_on}
 abbrev pub slip_at : Bor (List ℕ) → List Entry
 slip_at r = entries_in (length r.now / 12) r.now
 
-abbrev pub slips_at : List (Bor (List ℕ)) → List (List Entry)
-slips_at rs = map slip_at rs
+abbrev pub slips_in : List (Bor (List ℕ)) → List (List Entry)
+slips_in rs = map slip_at rs
+
+abbrev pub slips_at : bundle.Slips → List (List Entry)
+slips_at s = slips_in s.rests
 
 -- in what was read, or what refuses
 abbrev pub read_at : Result bundle.Slips Refused → Result (List (List Entry)) Refused
-read_at (Ok s) = Ok (slips_at s.rests)
+read_at (Ok s) = Ok (slips_at s)
 read_at (Err r) = Err r
 
 -- as many slips as there may be, the last of them empty, or what refuses

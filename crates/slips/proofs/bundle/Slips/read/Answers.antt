@@ -1,6 +1,6 @@
 -- `slips::Slips::read` meets its contract: before each turn the slips that are cut off are the bundle's first, and what is left
 -- decides (`Cutting`). Assumes nothing.
-use mathlib.Core.Path.{◌≡◌, refl, sym, ap}
+use mathlib.Core.Path.{◌≡◌, refl, sym}
 use Rattle.std.proofs.lemmas.List.{map-set, set-get_or}
 use mathlib.Core.List.{List}
 use Prim.Native.Nat.{ℕ, ◌+◌, ◌-◌, ◌<◌, ◌≤◌}
