@@ -1,2 +1,2 @@
 pub mod Tests
-pub mod Lines
+pub mod Accepted

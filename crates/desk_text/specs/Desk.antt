@@ -1,7 +1,6 @@
 -- 01, "Two programs": what the desk program prints.
-use Rattle.std.specs.Prelude.{ℕ, Bool, cond, ◌&&◌, None, Some, List, length, take, leb}
-use Rattle.slips.specs.declared.pass.Verdict.{Verdict}
-use Rattle.slips.specs.declared.pass.Verdict.TheVariants.{Accepted, Refused}
+use Rattle.std.specs.Prelude.{ℕ, Bool, cond, ◌&&◌, None, Some, Err, List, length, take, leb}
+use Rattle.slips.specs.Verdicts.{Verdict, Accepted}
 use Rattle.slips.specs.Check.{check_of}
 use Rattle.input.specs.Taken.{Input}
 use Rattle.listing.specs.Text.{accepted_line, refused_line, outside_line, too_long_text, no_file}
@@ -11,7 +10,7 @@ use Rattle.desk_text.specs.Outside.{outside_of}
 -- `outside` stands in the place of `accepted`
 abbrev pub verdict_line : Bool → Verdict → List ℕ
 verdict_line out (Accepted n) = cond out outside_line (accepted_line n)
-verdict_line out (Refused number place) = refused_line number place
+verdict_line out (Err r) = refused_line r.number r.place
 
 unfoldable pub verdict_of : List ℕ → List ℕ → List ℕ
 verdict_of s b = verdict_line (outside_of (length s) b) (check_of s b)

@@ -1,6 +1,6 @@
 -- 01, "Two programs": "Before `accepted` it tests each entry's end against the log's length".
 use Rattle.std.specs.Prelude.{ℕ, ◌+◌, ◌≡◌, Bool, false, ◌||◌, List, [], ◌∷◌, ltb}
-use Rattle.objects.specs.Named.{Entry}
+use Rattle.objects.specs.declared.Entry.{Entry}
 use Rattle.slips.specs.Cut.{Slip, Cut, Slips, Fault, cut_of}
 
 -- one of the entries ends past a log of that length

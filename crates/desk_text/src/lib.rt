@@ -10,39 +10,33 @@ ghost use Rattle.desk_text.specs.Desk.{verdict_of, judged_of, desk_of};
 
 use listing::{accepted_line, put, refused_line};
 use outside::outside;
-use slips::Verdict;
 
+#[tactic(auto, using(crate::proofs::Accepted::accepted_cuts), unfolding(crate::specs::Desk::verdict_of, listing::specs::Text::outside_line))]
 fn verdict(log: &[u8], bundle: &[u8], out: &mut [u8]) -> usize
     requires { 64 ≤ length out.old }
     ensures { Said 0 (verdict_of log.now bundle.now) out.old out.new result }
 {
-    let checked = slips::check(log, bundle);
-    match checked {
-        Verdict::Accepted(n) => {
-            if outside(bundle, log.len()) {
-                return put(b"outside\n", out, 0);
-            }
-            accepted_line(n as u64, out, 0)
-        }
-        Verdict::Refused { number, place } => refused_line(number as u64, place as u64, out, 0),
+    match slips::check(log, bundle) {
+        Ok(_) if outside(bundle, log.len()) => put(b"outside\n", out, 0),
+        Ok(n) => accepted_line(n as u64, out, 0),
+        Err(refusal) => refused_line(refusal.number() as u64, refusal.place() as u64, out, 0),
     }
 }
 
 // What is printed for two files, of each of which a byte past the limit is enough.
+#[tactic(auto, unfolding(crate::specs::Desk::judged_of, listing::specs::Text::too_long_text))]
 fn judged(log: &[u8], bundle: &[u8], out: &mut [u8]) -> usize
     requires { 64 ≤ length out.old }
     ensures { Said 0 (judged_of log.now bundle.now) out.old out.new result }
 {
-    if input::LIMIT < log.len() {
-        return put(b"too long\n", out, 0);
-    }
-    if input::LIMIT < bundle.len() {
+    if input::LIMIT < log.len() || input::LIMIT < bundle.len() {
         return put(b"too long\n", out, 0);
     }
     verdict(log, bundle, out)
 }
 
 // What the desk program prints for what came of reading log and bundle into two buffers.
+#[tactic(auto, unfolding(crate::specs::Desk::desk_of, listing::specs::Text::no_file))]
 pub fn judge(
     first: Option<usize>,
     log: &[u8],
@@ -53,11 +47,8 @@ pub fn judge(
     requires { Within first log.now × Within second bundle.now × (64 ≤ length out.old) }
     ensures { Said 0 (desk_of first log.now second bundle.now) out.old out.new result }
 {
-    let Some(n) = first else {
-        return put(b"no file\n", out, 0);
-    };
-    let Some(m) = second else {
-        return put(b"no file\n", out, 0);
-    };
-    judged(&log[..n], &bundle[..m], out)
+    match (first, second) {
+        (Some(n), Some(m)) => judged(&log[..n], &bundle[..m], out),
+        _ => put(b"no file\n", out, 0),
+    }
 }

@@ -1,38 +1,36 @@
 // Whether an entry of a bundle ends past the log.
-ghost use Rattle.std.specs.Prelude.{◌*◌, ◌≤◌, ◌≡◌, length};
+ghost use Rattle.std.specs.Prelude.{◌≡◌, ◌/◌, length};
 ghost use Rattle.slips.specs.Cut.{entries_in};
 ghost use Rattle.desk_text.specs.Outside.{past, outside_of, Cuts};
 
-// Whether one of the first n entries does.
-fn past(t: &[u8], n: usize, len: usize) -> bool
-    requires { 12 * n ≤ length t.now }
-    ensures { result ≡ past len (entries_in n t.now) }
+// Whether one of these entries does.
+#[tactic(auto, using(slips::proofs::Format::Chunks::entries_chunk, slips::proofs::Format::Chunks::entries_none))]
+fn past(entries: &[u8], len: usize) -> bool
+    ensures { result ≡ past len (entries_in (length entries.now / 12) entries.now) }
 {
-    let mut i: usize = 0;
-    while i < n {
-        let start = fields::get32_be(t, 12 * i) as usize;
-        let size = fields::get32_be(t, 12 * i + 4) as usize;
+    for entry in entries.chunks_exact(12) {
+        let start = fields::get32_be(entry, 0) as usize;
+        let size = fields::get32_be(entry, 4) as usize;
         if len < start + size {
             return true;
         }
-        i += 1;
     }
     false
 }
 
 // Whether an entry on one of the slips does.
+#[tactic(auto, using(crate::proofs::Tests::testing_none, crate::proofs::Tests::tested))]
 pub fn outside(b: &[u8], len: usize) -> bool
     requires { Cuts b.now }
     ensures { result ≡ outside_of len b.now }
 {
-    let mut at: usize = 0;
-    while at < b.len() {
-        let t = &b[at..];
-        let n = fields::get32_be(t, 0) as usize;
-        if past(&t[6..], (n - 2) / 12, len) {
+    let mut rest = b;
+    while !rest.is_empty() {
+        let end = 4 + fields::get32_be(rest, 0) as usize;
+        if past(&rest[6..end], len) {
             return true;
         }
-        at += 4 + n;
+        rest = &rest[end..];
     }
     false
 }

@@ -4,7 +4,7 @@ use mathlib.Core.Path.{◌≡◌, ap, ◌∙◌}
 use mathlib.Core.List.{List, ◌++◌}
 use Prim.Native.Nat.{ℕ, ◌≤◌}
 use lib.ListN.{length, take}
-use Rattle.objects.specs.declared.Answer.TheVariants.{Refused}
+use Rattle.objects.specs.Answers.{Refused}
 use Rattle.objects.specs.Logs.{LogOf}
 use Rattle.objects.specs.Named.{entries_of}
 use Rattle.objects.specs.Next.{next_at}

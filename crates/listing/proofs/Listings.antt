@@ -8,8 +8,9 @@ use native.Mathlib.Omega.{arith}
 use lib.ListN.{length, length-append}
 use Rattle.fields.proofs.Writing.{wrote_length}
 use Rattle.objects.specs.declared.Step.{Step}
-use Rattle.objects.specs.declared.Answer.{Answer}
-use Rattle.objects.specs.declared.Answer.TheVariants.{Object, Done, Refused}
+use Rattle.std.specs.Prelude.{Err}
+use Rattle.headers.specs.Refused as told
+use Rattle.objects.specs.Answers.{Answer, Object, Done}
 use Rattle.objects.specs.Next.{next_at}
 use Rattle.objects.specs.Stepping.{Met, met_at}
 use Rattle.objects.proofs.Steps.{is_at_end}
@@ -61,7 +62,7 @@ module _ (log : List ℕ) (at n : ℕ) (x y : List ℕ) (used : ℕ) (w : Listin
       let c : n + 0 ≡ n = omega arith in
       last_line s (rw (met_done log at e) (λ i. end_line (is_at_end log at e i) (c i)))
 
-  pub listed_refused : {z : List ℕ} {r k p : ℕ} → (next_at log at).answer ≡ Refused k p → Said used (refused_line k p) y z r → Said 0 (listing_of log) x z r
+  pub listed_refused : {z : List ℕ} {r : ℕ} {f : told.Refused} → (next_at log at).answer ≡ Err f → Said used (refused_line f.number f.place) y z r → Said 0 (listing_of log) x z r
   listed_refused e s = last_line s (rw (met_refused log at e))
 
   pub listing_room : used + 64 ≤ length y

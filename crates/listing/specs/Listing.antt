@@ -1,6 +1,6 @@
 -- 01, "Two programs": what the lister prints.
 use Rattle.std.specs.Prelude.{ℕ, cond, None, Some, List, [], ◌∷◌, ◌++◌, length, take, leb}
-use Rattle.objects.specs.Named.{Entry}
+use Rattle.objects.specs.declared.Entry.{Entry}
 use Rattle.objects.specs.Stepping.{Ended, at_end, refused, no_step_left, met_at, objects_of}
 use Rattle.input.specs.Taken.{Input}
 use Rattle.listing.specs.Text.{object_line, end_line, refused_line, too_long_text, no_file}

@@ -9,7 +9,7 @@ ghost use Rattle.input.specs.Taken.{Within};
 ghost use Rattle.listing.specs.Text.{Said};
 ghost use Rattle.listing.specs.Listing.{listing_of, page_of, report_of};
 
-use objects::{Answer, Cursor};
+use objects::Cursor;
 pub use words::{accepted_line, put, refused_line};
 use words::{end_line, object_line};
 
@@ -26,25 +26,27 @@ fn list(log: &[u8], out: &mut [u8]) -> usize
     ensures { Said 0 (listing_of log.now) out.old out.new result }
 {
     let mut c = Cursor::new();
-    let mut n: usize = 0;
-    let mut used: usize = 0;
+    let mut n: u64 = 0;
+    let mut used = 0;
     loop {
         let step = c.step(log);
-        let answer = step.answer;
-        let Answer::Object { start, size, kind } = answer else {
-            match answer {
-                Answer::Refused { number, place } => {
-                    return refused_line(number as u64, place as u64, out, used);
-                }
-                _ => {
-                    return end_line(log.len() as u64, n as u64, out, used);
-                }
+        match step.answer {
+            Ok(Some(object)) => {
+                used = object_line(
+                    object.start as u64,
+                    object.size as u64,
+                    object.kind as u64,
+                    out,
+                    used,
+                );
+                n += 1;
+                c = step.next;
             }
-        };
-        used = object_line(start as u64, size as u64, kind as u64, out, used);
-        n += 1;
-        let next = step.next;
-        c = next;
+            Ok(None) => return end_line(log.len() as u64, n, out, used),
+            Err(refusal) => {
+                return refused_line(refusal.number() as u64, refusal.place() as u64, out, used);
+            }
+        }
     }
 }
 

@@ -5,8 +5,8 @@ use lib.ListN.{length}
 use Rattle.listing.proofs.Listings.{Listing}
 use Rattle.listing.proofs.list.Given as goal
 
-abbrev pub invariant-loop-start : goal.invariant-loop-start
-invariant-loop-start l = Listing l.log l.initial.out l.out l.c.at l.n l.used
+abbrev pub invariant-loop-object : goal.invariant-loop-object
+invariant-loop-object l = Listing l.log l.initial.out l.out l.c.at l.n l.used
 
-abbrev pub decreases-loop-start : goal.decreases-loop-start
-decreases-loop-start l = length l.log - l.c.at
+abbrev pub decreases-loop-object : goal.decreases-loop-object
+decreases-loop-object l = length l.log - l.c.at

@@ -36,6 +36,9 @@ pub record Whole (t : List ℕ) (least : ℕ) : Type 0 where
   pub rises : rises_from 0 (slip_in t).entries ≡ true
 
 module _ (t : List ℕ) (least : ℕ) where
+  pub whole_shape : Whole t least → Shape t
+  whole_shape w = record { two = omega (arith, w.told); twelve = omega (arith, w.told); within = w.within }
+
   pub no_fault : fault_of t least ≡ 0 → Whole t least
   unfolding fault_of
   no_fault q =
