@@ -4,13 +4,22 @@ ghost use Rattle.std.specs.Prelude.{◌≡◌, length};
 use headers::{Header, Origin};
 
 // A header in nanoseconds.
-pub fn header() -> Header {
+fn header(origin: Origin) -> Header {
     Header {
         unit: 2,
-        origin: Origin::First { client: 0 },
+        origin,
         version: 0,
         stamp: 1000000,
     }
+}
+
+// The first header.
+pub fn first() -> Header {
+    header(Origin::First { client: 0 })
+}
+
+fn put_overload(header: Header, out: &mut [u8]) {
+    let _ = can_records::write_overload(can::Overload { header, channel: 1 }, out);
 }
 
 // One overload, M2.
@@ -18,13 +27,7 @@ pub fn overload() -> [u8; 36]
     ensures { 36 ≡ length result }
 {
     let mut log = [0u8; 36];
-    let _ = can_records::write_overload(
-        can::Overload {
-            header: header(),
-            channel: 1,
-        },
-        &mut log,
-    );
+    put_overload(first(), &mut log);
     log
 }
 
@@ -44,17 +47,13 @@ pub fn second_overload() -> [u8; 44]
     ensures { 44 ≡ length result }
 {
     let mut log = [0u8; 44];
-    let origin = Origin::Second {
-        status: 1,
-        original: 5,
-    };
-    let header = Header {
-        unit: 2,
-        origin,
-        version: 0,
-        stamp: 1000000,
-    };
-    let _ = can_records::write_overload(can::Overload { header, channel: 1 }, &mut log);
+    put_overload(
+        header(Origin::Second {
+            status: 1,
+            original: 5,
+        }),
+        &mut log,
+    );
     log
 }
 

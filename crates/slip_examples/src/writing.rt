@@ -5,7 +5,7 @@ use std::io;
 
 fn frame() -> Frame {
     Frame {
-        header: samples::header(),
+        header: samples::first(),
         flags: 0,
         channel: 1,
         hardware: 0,
