@@ -29,7 +29,11 @@ fn tell_ring(out: &mut [u64], s: RingStep) -> u32
         Ok(Some(found)) => {
             let o = found.object;
             let lies = segment(found.lies);
-            tell(out, 0, [o.start as u64, o.size as u64, o.kind as u64, on, lies])
+            tell(
+                out,
+                0,
+                [o.start as u64, o.size as u64, o.kind as u64, on, lies],
+            )
         }
         Ok(None) => tell(out, DONE, [on, 0, 0, on, 0]),
         Err(r) => tell(out, r.number(), [r.place() as u64, 0, 0, on, 0]),
