@@ -19,7 +19,7 @@ fn past(entries: &[u8], len: usize) -> bool
 }
 
 // Whether an entry on one of the slips does.
-#[tactic(auto, using(crate::proofs::Tests::testing_none, crate::proofs::Tests::tested))]
+#[tactic(auto, using(crate::proofs::Tests::testing_none, crate::proofs::Tests::tested, crate::proofs::Tests::turn_on))]
 pub fn outside(b: &[u8], len: usize) -> bool
     requires { Cuts b.now }
     ensures { result ≡ outside_of len b.now }

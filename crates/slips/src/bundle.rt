@@ -44,7 +44,7 @@ fn shape_ok(t: &[u8]) -> bool
 }
 
 // What refuses the slip that what is left of a bundle begins with: 20, 21, 22 or 23. Its desk must be at least this.
-#[tactic(auto, using(crate::proofs::Format::SlipFaults::shaped), unfolding(crate::specs::Cut::fault_of, headers::specs::HeadTests::first))]
+#[tactic(auto, using(crate::proofs::Format::SlipFaults::shaped, crate::proofs::Format::SlipFaults::shape_long, crate::proofs::Format::SlipFaults::fault_order, crate::proofs::Format::SlipFaults::fault_nothing, crate::proofs::Format::Chunks::slip_tested), unfolding(crate::specs::Cut::fault_of, headers::specs::HeadTests::first))]
 fn fault(t: &[u8], least: usize) -> Result<(), Fault>
     ensures { tested result ≡ fault_of t.now least }
 {
@@ -66,6 +66,7 @@ fn fault(t: &[u8], least: usize) -> Result<(), Fault>
 
 impl<'a> Slips<'a> {
     // The entries of a bundle's slips, or what refuses the bundle first.
+    #[tactic(auto, using(crate::proofs::Loops::Cutting::cutting_none, crate::proofs::Loops::Cutting::room))]
     pub fn read(b: &'a [u8]) -> Result<Slips<'a>, Refusal>
         ensures { read_at result ≡ filled (cut_of b.now) }
     {

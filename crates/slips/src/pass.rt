@@ -30,6 +30,7 @@ fn at_end(slips: Slips<'_>, n: usize) -> Result<usize, Refusal>
 }
 
 // The walk and the merge together: how many objects there are, or the first refusal.
+#[tactic(auto, using(crate::proofs::Loops::MergingLog::stepped, crate::proofs::Loops::MergingLog::merge_refused, crate::proofs::Loops::MergingLog::merge_end, crate::proofs::Loops::MergingLog::merging_less))]
 fn merge_log(log: &[u8], slips: Slips<'_>) -> Result<usize, Refusal>
     ensures { result ≡ merge_log_of log.now (slips_at slips.entry) }
 {
@@ -55,6 +56,7 @@ fn merge_log(log: &[u8], slips: Slips<'_>) -> Result<usize, Refusal>
 
 // Whether the slips of the bundle name the objects of the log, each exactly once: how many objects there are, or what
 // refuses. Writes nothing.
+#[tactic(auto, using(crate::proofs::Loops::Checking::long_refused, crate::proofs::Loops::Checking::read_refused, crate::proofs::Loops::Checking::read_merged))]
 pub fn check(log: &[u8], bundle: &[u8]) -> Result<usize, Refusal>
     ensures { result ≡ check_of log.now bundle.now }
 {

@@ -1,5 +1,6 @@
 -- Entries as chunks of twelve bytes, as code cuts them off one by one. Assumes nothing.
 use mathlib.Core.Path.{◌≡◌, refl, sym, ap, ◌∙◌}
+use mathlib.Core.Bool.{true}
 use mathlib.Core.List.{List, [], ◌∷◌, ◌++◌}
 use Prim.Native.Nat.{ℕ, zero, suc, ◌+◌, ◌-◌, ◌*◌, ◌/◌, ◌<◌, ◌≤◌}
 use native.Mathlib.Omega.{arith}
@@ -7,11 +8,11 @@ use lib.ListN.{length, take, drop, length-append, length-drop, take-append-drop}
 use lib.Seq.{drop_at, length-take-le, take-add}
 use Rattle.std.proofs.lemmas.List.{take-append-le, drop-append-le}
 use Rattle.fields.specs.Numbers.{big}
-use Rattle.slips.specs.Cut.{entry_in, entries_in, length_in, slip_in}
+use Rattle.slips.specs.Cut.{entry_in, entries_in, length_in, slip_in, shape_ok}
 use Rattle.slips.specs.declared.merge.Compared.TheVariants.{Hit}
 use Rattle.slips.specs.Inner.Merge.{move}
 use Rattle.slips.proofs.Trouble.Entries.{entry_same}
-use Rattle.slips.proofs.Format.SlipFaults.{Shape}
+use Rattle.slips.proofs.Format.SlipFaults.{Shape, shaped}
 
 big_front : (w : ℕ) (x r : List ℕ) (at : ℕ) → at + w ≤ length x → big w (x ++ r) at ≡ big w x at
 unfolding big
@@ -57,3 +58,7 @@ pub slip_part : (t : List ℕ) → Shape t → (n : ℕ) → n ≡ length_in t �
 slip_part t w n e =
     let m : 4 + n - 6 ≡ 12 * ((length_in t - 2) / 12) = omega (arith, w.two, w.twelve) in
     rw (m, entries_part ((length_in t - 2) / 12) (drop 6 t) (omega (arith, w.two, w.within, length-drop 6 t)))
+
+-- so they are the slip's entries, that the code has tested
+pub slip_tested : (t : List ℕ) (n : ℕ) → shape_ok t ≡ true → n ≡ length_in t → entries_in (length (take (4 + n - 6) (drop 6 t)) / 12) (take (4 + n - 6) (drop 6 t)) ≡ (slip_in t).entries
+slip_tested t n s e = slip_part t (shaped t s) n e

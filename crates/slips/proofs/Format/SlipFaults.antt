@@ -78,3 +78,7 @@ module _ (t : List ℕ) (least : ℕ) (s : shape_ok t ≡ true) (v : get_or t 4 
   pub fault_nothing : rises_from 0 (slip_in t).entries ≡ true → 0 ≡ fault_of t least
   unfolding fault_of first
   fault_nothing r = rw (s, eq-eqb (get_or t 4 0) 1 v, le-leb least (desk_in t) d, r)
+
+-- a slip of right shape has its first six bytes
+pub shape_long : (t : List ℕ) → shape_ok t ≡ true → 6 ≤ length t
+shape_long t s = let w = shaped t s in omega arith

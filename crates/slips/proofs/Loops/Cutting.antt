@@ -5,16 +5,17 @@ use mathlib.Core.List.{List, [], ◌∷◌, ◌++◌, append-nil}
 use Prim.Native.Nat.{ℕ, zero, suc, ◌+◌, ◌-◌, ◌<◌, ◌≤◌}
 use native.Mathlib.Omega.{arith}
 use borrow.Author.Tests.{ne_eqb}
-use lib.ListN.{length, drop, set, replicate, length-append, length-drop, drop_of_length-le}
+use lib.ListN.{length, take, drop, set, replicate, length-append, length-drop, drop_of_length-le}
 use lib.Seq.{append_snoc, set_at, drop-drop}
 use lib.Dec.{eqb}
 use Rattle.std.specs.Prelude.{Ok, Err}
+use Rattle.fields.proofs.Parts.{tail}
 use Rattle.headers.specs.Refused.{refusal}
 use Rattle.objects.specs.declared.Entry.{Entry}
 use Rattle.slips.specs.Cut.{Slip, slip_limit, length_in, desk_in, slip_in, fault_of, Cut, Slips, Fault, onto, or_fault, cut_from, cut_of}
 use Rattle.slips.specs.Right.{entries_on}
 use Rattle.slips.specs.Inner.Rests.{filled}
-use Rattle.slips.proofs.Format.SlipFaults.{Whole, no_fault}
+use Rattle.slips.proofs.Format.SlipFaults.{Shape, Whole, no_fault, whole_shape}
 use Rattle.slips.proofs.Format.Cuts.{behind}
 
 -- many slips, and then the others
@@ -106,3 +107,14 @@ module _ (b : List ℕ) (slips : List (List Entry)) (at least i : ℕ) (c : Cutt
                 (set_at (entries_on c.list) _ _ _ i (entries_length c.list ∙ c.many) ∙ sym (append_snoc (entries_on c.list) _ _));
             same = sym (onto_snoc c.list s (rest (drop (at + (4 + length_in t)) b))) ∙ ap (λ (x : List ℕ). onto_all c.list (onto s (rest x))) (sym (drop-drop (4 + length_in t) at b)) ∙ rw f at next;
           }
+
+-- the slip that is cut off is whole
+pub whole : (b : List ℕ) (at least : ℕ) → 0 ≡ fault_of (take (length b - at) (drop at b)) least → Shape (drop at b)
+whole b at least e = whole_shape _ _ (no_fault _ _ (sym (rw tail at e)))
+
+-- and stands in the bundle
+pub room : (b : List ℕ) (at least n : ℕ) → 0 ≡ fault_of (take (length b - at) (drop at b)) least → n ≡ length_in (take (length b - at) (drop at b)) → (2 ≤ n) × (4 + n ≤ length b - at)
+room b at least n e z =
+    let w = whole b at least e in
+    let told : n ≡ length_in (drop at b) = rw tail at z in
+    (omega (arith, w.two), omega (arith, w.within, length-drop at b))

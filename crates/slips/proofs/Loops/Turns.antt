@@ -1,12 +1,12 @@
 -- One slip more: what `advance` knows when the first i slips are moved past the object o, and what a turn adds. Assumes
 -- nothing.
 use mathlib.Core.Path.{◌≡◌, refl, sym, ap, ap₂, ◌∙◌}
-use mathlib.Core.List.{List, [], ◌∷◌, ◌++◌, append-nil}
+use mathlib.Core.List.{List, [], ◌∷◌, ◌++◌}
 use Prim.Native.Nat.{ℕ, suc, ◌+◌, ◌<◌, ◌≤◌, min}
 use native.Mathlib.Omega.{arith}
 use native.Mathlib.Numerals.{add-one}
-use lib.ListN.{length, get_or, get_or-map, take, drop, set, drop_of_length-le}
-use lib.Seq.{take-suc, drop-cons, append_snoc, take_all, get_or_at, set_at, length-take-le}
+use lib.ListN.{length, get_or, get_or-map, take, drop, set}
+use lib.Seq.{take-suc, drop-cons, append_snoc, get_or_at, set_at, length-take-le}
 use Rattle.std.specs.Prelude.{Option, Some, MatchOption}
 use Rattle.std.specs.Prelude as opt
 use Rattle.std.specs.Borrow.{Bor}

@@ -1,41 +1,31 @@
 -- `outside::outside` meets its contract: before each turn the slips that are left decide (`Testing`), and the first of
--- them is whole (`Turn`). Assumes nothing.
-use mathlib.Core.Path.{sym, ◌∙◌}
-use Prim.Native.Nat.{◌<◌}
+-- them stands there whole. Assumes nothing.
+use mathlib.Core.Path.{◌≡◌}
+use mathlib.Core.Bool.{false}
 use native.Mathlib.Omega.{arith}
 use borrow.Author.Rules.{rules}
 use lib.ListN.{length}
-use Rattle.fields.proofs.Parts.{tail}
-use Rattle.slips.proofs.Format.Chunks.{slip_part}
-use Rattle.desk_text.proofs.Tests.{turn, room}
+use lib.Dec.{eqb}
+use Rattle.desk_text.proofs.Tests.{room, turn_found}
 use Rattle.desk_text.proofs.outside.outside.Goals as goal
 
 pub get32_be-requires : goal.get32_be-requires
-get32_be-requires c = let l : 0 < length c.loop-rest.rest.now = search rules in omega (arith, room _ _ _ c.loop-rest.invariant l)
+get32_be-requires c = let q : eqb (length c.loop-rest.rest.now) 0 ≡ false = search rules in omega (arith, room _ _ _ c.loop-rest.invariant q)
 
 pub slice_bounds-past-count : goal.slice_bounds-past-count
-slice_bounds-past-count c = let l : 0 < length c.loop-rest.rest.now = search rules in omega (arith, room _ _ _ c.loop-rest.invariant l)
+slice_bounds-past-count c = let q : eqb (length c.loop-rest.rest.now) 0 ≡ false = search rules in omega (arith, room _ _ _ c.loop-rest.invariant q)
 
 pub slice_bounds-past-start : goal.slice_bounds-past-start
-slice_bounds-past-start c = let l : 0 < length c.loop-rest.rest.now = search rules in omega (arith, room _ _ _ c.loop-rest.invariant l)
+slice_bounds-past-start c = let q : eqb (length c.loop-rest.rest.now) 0 ≡ false = search rules in omega (arith, room _ _ _ c.loop-rest.invariant q)
 
 pub slice_bounds-past-end : goal.slice_bounds-past-end
-slice_bounds-past-end c = let l : 0 < length c.loop-rest.rest.now = search rules in omega (arith, room _ _ _ c.loop-rest.invariant l)
-
-pub returns-then-past : goal.returns-then-past
-returns-then-past c =
-    let l : 0 < length c.loop-rest.rest.now = search rules in
-    let w = turn _ _ _ c.loop-rest.invariant l in
-    w.found (sym (rw (slip_part _ w.shape _ c.get32_be.ensures) at c.past.ensures) ∙ c.if-past.true)
+slice_bounds-past-end c = let q : eqb (length c.loop-rest.rest.now) 0 ≡ false = search rules in omega (arith, room _ _ _ c.loop-rest.invariant q)
 
 pub slice_bounds-rest-count : goal.slice_bounds-rest-count
-slice_bounds-rest-count c = let l : 0 < length c.loop-rest.rest.now = search rules in omega (arith, room _ _ _ c.loop-rest.invariant l)
+slice_bounds-rest-count c = let q : eqb (length c.loop-rest.rest.now) 0 ≡ false = search rules in omega (arith, room _ _ _ c.loop-rest.invariant q)
 
 pub slice_bounds-rest-start : goal.slice_bounds-rest-start
-slice_bounds-rest-start c = let l : 0 < length c.loop-rest.rest.now = search rules in omega (arith, room _ _ _ c.loop-rest.invariant l)
+slice_bounds-rest-start c = let q : eqb (length c.loop-rest.rest.now) 0 ≡ false = search rules in omega (arith, room _ _ _ c.loop-rest.invariant q)
 
-pub loop-rest-preserved : goal.loop-rest-preserved
-loop-rest-preserved c =
-    let l : 0 < length c.loop-rest.rest.now = search rules in
-    let w = turn _ _ _ c.loop-rest.invariant l in
-    rw (tail, c.get32_be.ensures) (w.on (sym (rw (slip_part _ w.shape _ c.get32_be.ensures) at c.past.ensures) ∙ c.if-past.false))
+pub returns-then-past : goal.returns-then-past
+returns-then-past c = let q : eqb (length c.loop-rest.rest.now) 0 ≡ false = search rules in turn_found _ _ _ c.loop-rest.invariant q _ c.get32_be.ensures c.if-past.ensures
