@@ -1,7 +1,5 @@
 -- That the code is the definition: what its loops know, and what each way out answers.
 pub mod Cutting
-pub mod Comparing
-pub mod Standing
 pub mod Turns
 pub mod Beside
 pub mod Strays

@@ -2,18 +2,17 @@
 ghost use Rattle.std.specs.Prelude.{◌≡◌, ◌/◌, length};
 ghost use Rattle.headers.specs.Faults.{tested};
 ghost use Rattle.slips.specs.Cut.{entries_in, rises_from, shape_ok, fault_of, cut_of};
-ghost use Rattle.slips.specs.Inner.Places.{placed};
+ghost use Rattle.slips.specs.Inner.Rests.{read_at, filled};
 
 use headers::{Fault, Refusal};
 
 // A bundle has at most this many slips.
 pub const SLIPS: usize = 8;
 
-// What is left of a slip: its next entry, and its end.
+// What is left of the slips of a bundle, each a part of it.
 #[derive(Clone, Copy)]
-pub struct Place {
-    pub at: usize,
-    pub end: usize,
+pub struct Slips<'a> {
+    pub rests: [&'a [u8]; SLIPS],
 }
 
 // Whether the starts of these entries rise strictly.
@@ -65,28 +64,30 @@ fn fault(t: &[u8], least: usize) -> Result<(), Fault>
     Ok(())
 }
 
-// The places of a bundle's slips, or what refuses it first.
-pub fn read(b: &[u8]) -> Result<[Place; SLIPS], Refusal>
-    ensures { result ≡ placed (cut_of b.now) }
-{
-    let mut places = [Place { at: 0, end: 0 }; SLIPS];
-    let mut at = 0;
-    let mut least = 0;
-    for place in &mut places {
-        if at == b.len() {
-            break;
+impl<'a> Slips<'a> {
+    // The entries of a bundle's slips, or what refuses the bundle first.
+    pub fn read(b: &'a [u8]) -> Result<Slips<'a>, Refusal>
+        ensures { read_at result ≡ filled (cut_of b.now) }
+    {
+        let mut rests = [&b[..0]; SLIPS];
+        let mut at = 0;
+        let mut least = 0;
+        for rest in &mut rests {
+            if at == b.len() {
+                break;
+            }
+            let t = &b[at..];
+            if let Err(fault) = fault(t, least) {
+                return Err(fault.at(at));
+            }
+            let end = 4 + fields::get32_be(t, 0) as usize;
+            *rest = &t[6..end];
+            least = t[5] as usize + 1;
+            at += end;
         }
-        let t = &b[at..];
-        if let Err(fault) = fault(t, least) {
-            return Err(fault.at(at));
+        if at < b.len() {
+            return Err(Fault::Ninth.at(at));
         }
-        let end = at + (4 + fields::get32_be(t, 0) as usize);
-        *place = Place { at: at + 6, end };
-        least = t[5] as usize + 1;
-        at = end;
+        Ok(Slips { rests })
     }
-    if at < b.len() {
-        return Err(Fault::Ninth.at(at));
-    }
-    Ok(places)
 }

@@ -1,9 +1,10 @@
 // One object beside the slips: what each slip's next entry is to it, and the slips moved past it.
-ghost use Rattle.std.specs.Prelude.{◌≡◌};
-ghost use Rattle.slips.specs.Inner.Places.{Placed, AllPlaced};
-ghost use Rattle.slips.specs.Inner.Merge.{compare_at, merged_of, trouble_at, refused_by};
+ghost use Rattle.std.specs.Prelude.{◌≡◌, ◌/◌, length};
+ghost use Rattle.slips.specs.Cut.{entries_in};
+ghost use Rattle.slips.specs.Inner.Rests.{slips_at};
+ghost use Rattle.slips.specs.Inner.Merge.{compare_of, moved_of, hits_of, low_of, trouble_at, refused_by};
 
-use crate::bundle::{Place, SLIPS};
+use crate::bundle::Slips;
 use headers::{Fault, Refusal};
 use objects::Entry;
 
@@ -17,13 +18,13 @@ pub enum Compared {
 
 // The slips moved past an object: how many named it, and the lowest start of a stray.
 #[derive(Clone, Copy)]
-pub struct Merged {
-    pub places: [Place; SLIPS],
+pub struct Merged<'a> {
+    pub slips: Slips<'a>,
     pub hits: u32,
     pub low: Option<usize>,
 }
 
-impl Merged {
+impl Merged<'_> {
     // What is wrong at the object that starts here: a stray, or that it is named twice or not at all.
     pub fn trouble(&self, start: usize) -> Option<Refusal>
         ensures { result ≡ refused_by (trouble_at start self.now.low self.now.hits) }
@@ -40,51 +41,52 @@ impl Merged {
 }
 
 // What the next entry of a slip is to this object: start, size and type are compared, as whole numbers.
-#[tactic(auto, using(crate::proofs::Loops::Comparing::none_left, crate::proofs::Loops::Comparing::entry_left))]
-fn compare(p: Place, b: &[u8], object: Entry) -> Compared
-    requires { Placed b.now p }
-    ensures { result ≡ compare_at b.now object p }
+#[tactic(auto, using(crate::proofs::Format::Chunks::entries_chunk, crate::proofs::Format::Chunks::entries_none))]
+fn compare(slip: &[u8], object: Entry) -> Compared
+    ensures { result ≡ compare_of object (entries_in (length slip.now / 12) slip.now) }
 {
-    if p.end <= p.at {
+    if slip.len() < 12 {
         return Compared::Miss;
     }
-    let start = fields::get32_be(b, p.at) as usize;
+    let start = fields::get32_be(slip, 0) as usize;
     if object.start < start {
         return Compared::Miss;
     }
     if start == object.start
-        && fields::get32_be(b, p.at + 4) as usize == object.size
-        && fields::get32_be(b, p.at + 8) == object.kind
+        && fields::get32_be(slip, 4) as usize == object.size
+        && fields::get32_be(slip, 8) == object.kind
     {
         return Compared::Hit;
     }
     Compared::Stray(start)
 }
 
-// The slips, each moved past its entry of this object.
-#[tactic(auto, using(crate::proofs::Loops::Turns::standing, crate::proofs::Loops::Turns::turned_all, crate::proofs::Loops::Turns::turning_none), unfolding(crate::specs::Inner::Merge::merged_of))]
-pub(crate) fn advance(places: [Place; SLIPS], b: &[u8], object: Entry) -> Merged
-    requires { AllPlaced b.now places }
-    ensures { result ≡ merged_of b.now object places }
-{
-    let mut out = places;
-    let mut hits = 0;
-    let mut low = None;
-    for place in &mut out {
-        match compare(*place, b, object) {
-            Compared::Miss => {}
-            Compared::Hit => {
-                hits += 1;
-                place.at += 12;
-            }
-            Compared::Stray(start) => {
-                low = Some(low.map_or(start, |least: usize| least.min(start)));
+impl<'a> Slips<'a> {
+    // The slips, each moved past its entry of this object.
+    pub fn advance(self, object: Entry) -> Merged<'a>
+        ensures moved { slips_at result.slips ≡ moved_of object (slips_at self.entry) }
+        ensures hit { result.hits ≡ hits_of object (slips_at self.entry) }
+        ensures lowest { result.low ≡ low_of object (slips_at self.entry) }
+    {
+        let mut rests = self.rests;
+        let mut hits = 0;
+        let mut low = None;
+        for rest in &mut rests {
+            match compare(*rest, object) {
+                Compared::Miss => {}
+                Compared::Hit => {
+                    hits += 1;
+                    *rest = &rest[12..];
+                }
+                Compared::Stray(start) => {
+                    low = Some(low.map_or(start, |least: usize| least.min(start)));
+                }
             }
         }
-    }
-    Merged {
-        places: out,
-        hits,
-        low,
+        Merged {
+            slips: Slips { rests },
+            hits,
+            low,
+        }
     }
 }

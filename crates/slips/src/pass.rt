@@ -1,11 +1,10 @@
 // The one pass over the log, with the slips beside it.
 ghost use Rattle.std.specs.Prelude.{◌≡◌};
 ghost use Rattle.slips.specs.Check.{check_of};
-ghost use Rattle.slips.specs.Inner.Places.{AllPlaced};
+ghost use Rattle.slips.specs.Inner.Rests.{slips_at};
 ghost use Rattle.slips.specs.Inner.Pass.{at_end_of, merge_log_of};
 
-use crate::bundle::{Place, SLIPS, read};
-use crate::merge::advance;
+use crate::bundle::Slips;
 use headers::{Fault, Refusal};
 use objects::{Cursor, Entry};
 
@@ -21,36 +20,34 @@ const END: Entry = Entry {
 
 // Behind the last of n objects: an entry that is left is stray.
 #[tactic(auto, unfolding(crate::specs::Inner::Pass::at_end_of))]
-fn at_end(b: &[u8], places: [Place; SLIPS], n: usize) -> Result<usize, Refusal>
-    requires { AllPlaced b.now places }
-    ensures { result ≡ at_end_of b.now places n }
+fn at_end(slips: Slips<'_>, n: usize) -> Result<usize, Refusal>
+    ensures { result ≡ at_end_of (slips_at slips.entry) n }
 {
-    match advance(places, b, END).low {
+    match slips.advance(END).low {
         Some(start) => Err(Fault::Stray.at(start)),
         None => Ok(n),
     }
 }
 
 // The walk and the merge together: how many objects there are, or the first refusal.
-fn merge_log(log: &[u8], b: &[u8], places: [Place; SLIPS]) -> Result<usize, Refusal>
-    requires { AllPlaced b.now places }
-    ensures { result ≡ merge_log_of log.now b.now places }
+fn merge_log(log: &[u8], slips: Slips<'_>) -> Result<usize, Refusal>
+    ensures { result ≡ merge_log_of log.now (slips_at slips.entry) }
 {
     let mut c = Cursor::new();
-    let mut slips = places;
+    let mut rest = slips;
     let mut n = 0;
     loop {
         let step = c.step(log);
         let Some(object) = step.answer? else {
-            return at_end(b, slips, n);
+            return at_end(rest, n);
         };
-        let merged = advance(slips, b, object);
+        let merged = rest.advance(object);
         if let Some(trouble) = merged.trouble(object.start) {
             // It is told where the log behind it is well formed.
             step.next.walk(log)?;
             return Err(trouble);
         }
-        slips = merged.places;
+        rest = merged.slips;
         n += 1;
         c = step.next;
     }
@@ -64,6 +61,8 @@ pub fn check(log: &[u8], bundle: &[u8]) -> Result<usize, Refusal>
     if LONGEST < log.len() {
         return Err(Fault::Long.at(0));
     }
-    let places = read(bundle)?;
-    merge_log(log, bundle, places)
+    match Slips::read(bundle) {
+        Ok(slips) => merge_log(log, slips),
+        Err(refusal) => Err(refusal),
+    }
 }

@@ -8,6 +8,8 @@ use lib.Seq.{drop_at, length-take-le, take-add}
 use Rattle.std.proofs.lemmas.List.{take-append-le, drop-append-le}
 use Rattle.fields.specs.Numbers.{big}
 use Rattle.slips.specs.Cut.{entry_in, entries_in, length_in, slip_in}
+use Rattle.slips.specs.declared.merge.Compared.TheVariants.{Hit}
+use Rattle.slips.specs.Inner.Merge.{move}
 use Rattle.slips.proofs.Trouble.Entries.{entry_same}
 use Rattle.slips.proofs.Format.SlipFaults.{Shape}
 
@@ -29,6 +31,14 @@ entries_chunk x r e =
 
 pub entries_none : (t : List ℕ) → length t < 12 → entries_in (length t / 12) t ≡ []
 entries_none t l = let n : length t / 12 ≡ 0 = omega arith in rw n
+
+-- the entries behind the first
+pub entries_behind : (t : List ℕ) → entries_in (length (drop 12 t) / 12) (drop 12 t) ≡ move Hit (entries_in (length t / 12) t)
+entries_behind t = by (length t / 12) refl
+  where
+    by : (n : ℕ) → length t / 12 ≡ n → entries_in (length (drop 12 t) / 12) (drop 12 t) ≡ move Hit (entries_in n t)
+    by zero e = entries_none (drop 12 t) (omega (arith, length-drop 12 t))
+    by (suc n) e = let z : length (drop 12 t) / 12 ≡ n = omega (arith, length-drop 12 t) in rw z
 
 -- the bytes of n entries
 pub entries_part : (n : ℕ) (t : List ℕ) → 12 * n ≤ length t → entries_in (length (take (12 * n) t) / 12) (take (12 * n) t) ≡ entries_in n t

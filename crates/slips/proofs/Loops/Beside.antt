@@ -15,19 +15,8 @@ use Rattle.objects.specs.Rising.{Above, Rising}
 use Rattle.slips.specs.declared.merge.Compared.{Compared}
 use Rattle.slips.specs.declared.merge.Compared.TheVariants.{Miss, Hit, Stray}
 use Rattle.slips.specs.Right.{On, same, times, times_all}
-use Rattle.slips.specs.Inner.Merge.{past, compare_of, move_list, moved_of, hit_of, hits_of, lower, low_of}
+use Rattle.slips.specs.Inner.Merge.{past, compare_of, move, moved_of, hit_of, hits_of, lower, low_of}
 use Rattle.slips.proofs.Trouble.Entries.{same_self, same_true, same_false, same_other, start_same, in_above, times_above}
-
--- the merge over slips that are lists of entries
-
-abbrev pub hits : Entry → List (List Entry) → ℕ
-hits o ss = hits_of (compare_of o) ss
-
-abbrev pub low : Entry → List (List Entry) → Option ℕ
-low o ss = low_of (compare_of o) ss
-
-abbrev pub moves : Entry → List (List Entry) → List (List Entry)
-moves o ss = moved_of move_list (compare_of o) ss
 
 abbrev pub AllRising : List (List Entry) → Type 0
 AllRising [] = Unit
@@ -98,13 +87,13 @@ module _ (o : Entry) where
       (λ m. rw m.compared (times_above o s m.above))
       (λ m. rw (m.first, m.compared, same_self o, times_above o m.list m.above)) f
 
-  fine_later : (s : List Entry) → Fine o s → (e : Entry) → o.start < e.start → times e s ≡ times e (move_list (compare_of o s) s)
+  fine_later : (s : List Entry) → Fine o s → (e : Entry) → o.start < e.start → times e s ≡ times e (move (compare_of o s) s)
   fine_later s f e l =
       ⊎_elim
       (λ m. rw m.compared)
       (λ m. rw (m.first, m.compared, same_other e o (λ z. omega arith)) (omega arith)) f
 
-  fine_in : (s : List Entry) → Fine o s → (e : Entry) → In e s → ((e ≡ o) × (hit_of (compare_of o s) ≡ 1)) ⊎ In e (move_list (compare_of o s) s)
+  fine_in : (s : List Entry) → Fine o s → (e : Entry) → In e s → ((e ≡ o) × (hit_of (compare_of o s) ≡ 1)) ⊎ In e (move (compare_of o s) s)
   fine_in s f e i =
       ⊎_elim
       (λ m. inr (rw m.compared i))
@@ -112,15 +101,15 @@ module _ (o : Entry) where
       let j : In e (o ∷ m.list) = subst (In e) m.first i in
       rw (m.first, m.compared) (⊎_elim (λ q. inl (q, refl)) (λ t. inr t) j)) f
 
-  fine_moved : (s : List Entry) → Fine o s → (e : Entry) → In e (move_list (compare_of o s) s) → In e s × (o.start < e.start)
+  fine_moved : (s : List Entry) → Fine o s → (e : Entry) → In e (move (compare_of o s) s) → In e s × (o.start < e.start)
   fine_moved s f e =
-      ⊎_elim {C = In e (move_list (compare_of o s) s) → In e s × (o.start < e.start)}
+      ⊎_elim {C = In e (move (compare_of o s) s) → In e s × (o.start < e.start)}
       (λ m. rw m.compared (λ i. (i, in_above o.start e s m.above i)))
       (λ m. rw (m.first, m.compared) (λ i. (inr i, in_above o.start e m.list m.above i))) f
 
-  fine_rising : (s : List Entry) → Fine o s → Rising s → Rising (move_list (compare_of o s) s)
+  fine_rising : (s : List Entry) → Fine o s → Rising s → Rising (move (compare_of o s) s)
   fine_rising s f =
-      ⊎_elim {C = Rising s → Rising (move_list (compare_of o s) s)}
+      ⊎_elim {C = Rising s → Rising (move (compare_of o s) s)}
       (λ m. rw m.compared (λ r. r))
       (λ m. rw (m.first, m.compared) (λ r. r.1)) f
 
@@ -132,26 +121,26 @@ module _ (o : Entry) where
   AllFine [] = Unit
   AllFine (s ∷ ss) = Fine o s × AllFine ss
 
-  pub all_low : (ss : List (List Entry)) → AllFine ss → low o ss ≡ None
+  pub all_low : (ss : List (List Entry)) → AllFine ss → low_of o ss ≡ None
   all_low [] w = refl
-  all_low (s ∷ ss) w = fine_lower s w.0 (low o ss) ∙ all_low ss w.1
+  all_low (s ∷ ss) w = fine_lower s w.0 (low_of o ss) ∙ all_low ss w.1
 
-  pub all_times : (ss : List (List Entry)) → AllFine ss → times_all o ss ≡ hits o ss
+  pub all_times : (ss : List (List Entry)) → AllFine ss → times_all o ss ≡ hits_of o ss
   all_times [] w = refl
   all_times (s ∷ ss) w = omega (arith, fine_times s w.0, all_times ss w.1)
 
-  pub all_later : (ss : List (List Entry)) → AllFine ss → (e : Entry) → o.start < e.start → times_all e ss ≡ times_all e (moves o ss)
+  pub all_later : (ss : List (List Entry)) → AllFine ss → (e : Entry) → o.start < e.start → times_all e ss ≡ times_all e (moved_of o ss)
   all_later [] w e l = refl
   all_later (s ∷ ss) w e l = omega (arith, fine_later s w.0 e l, all_later ss w.1 e l)
 
-  pub all_in : (ss : List (List Entry)) → AllFine ss → (e : Entry) → On e ss → ((e ≡ o) × (1 ≤ hits o ss)) ⊎ On e (moves o ss)
+  pub all_in : (ss : List (List Entry)) → AllFine ss → (e : Entry) → On e ss → ((e ≡ o) × (1 ≤ hits_of o ss)) ⊎ On e (moved_of o ss)
   all_in [] w e i = absurd i
   all_in (s ∷ ss) w e i =
       ⊎_elim
       (λ j. ⊎_elim (λ q. inl (q.0, omega (arith, q.1))) (λ t. inr (inl t)) (fine_in s w.0 e j))
       (λ j. ⊎_elim (λ q. inl (q.0, omega (arith, q.1))) (λ t. inr (inr t)) (all_in ss w.1 e j)) i
 
-  pub all_moved : (ss : List (List Entry)) → AllFine ss → (e : Entry) → On e (moves o ss) → On e ss × (o.start < e.start)
+  pub all_moved : (ss : List (List Entry)) → AllFine ss → (e : Entry) → On e (moved_of o ss) → On e ss × (o.start < e.start)
   all_moved [] w e i = absurd i
   all_moved (s ∷ ss) w e i =
       ⊎_elim
@@ -164,19 +153,19 @@ module _ (o : Entry) where
       (λ q. let z = start_same q.0 in omega arith)
       (λ j. let l = (all_moved ss w e j).1 in omega arith) (all_in ss w e i)
 
-  pub all_rising : (ss : List (List Entry)) → AllFine ss → AllRising ss → AllRising (moves o ss)
+  pub all_rising : (ss : List (List Entry)) → AllFine ss → AllRising ss → AllRising (moved_of o ss)
   all_rising [] w r = tt
   all_rising (s ∷ ss) w r = (fine_rising s w.0 r.0, all_rising ss w.1 r.1)
 
 -- starts stay low
 
-move_low : (h : Compared) (s : List Entry) → Low s → Low (move_list h s)
+move_low : (h : Compared) (s : List Entry) → Low s → Low (move h s)
 move_low Miss s w = w
 move_low Hit [] w = tt
 move_low Hit (e ∷ s) w = w.1
 move_low (Stray x) s w = w
 
-pub moves_low : (o : Entry) (ss : List (List Entry)) → AllLow ss → AllLow (moves o ss)
+pub moves_low : (o : Entry) (ss : List (List Entry)) → AllLow ss → AllLow (moved_of o ss)
 moves_low o [] w = tt
 moves_low o (s ∷ ss) w = (move_low (compare_of o s) s w.0, moves_low o ss w.1)
 

@@ -16,7 +16,6 @@ use Rattle.objects.specs.Stepping.{objects_of}
 use Rattle.objects.specs.Walk.{walk_of}
 use Rattle.objects.proofs.Answers.{same_refusal}
 use Rattle.objects.proofs.Naming.{walk_exact, log_objects, entries_rise}
-use Rattle.slips.specs.declared.bundle.Place.{Place}
 use Rattle.slips.specs.Verdicts.{Refused}
 use Rattle.slips.specs.Cut.{Slip, slip_limit, Cut, Slips, Fault, cut_of}
 use Rattle.slips.specs.Bundle.{AllFit, AllByRule}
@@ -25,11 +24,10 @@ use Rattle.slips.specs.Trouble.{Trouble}
 use Rattle.slips.specs.Claims.{longest}
 use Rattle.slips.specs.Soonest.{sooner, soonest, soonest_on, stray, miscount, trouble_of}
 use Rattle.slips.specs.Check.{answer_of, check_of}
-use Rattle.slips.specs.Inner.Places.{places_of, nowhere, placed, AllPlaced, slips_at}
+use Rattle.slips.specs.Inner.Rests.{filled}
 use Rattle.slips.specs.Inner.Merge.{merge_of}
 use Rattle.slips.specs.Inner.Pass.{merge_log_of}
 use Rattle.slips.proofs.Format.Cuts.{bundle_exact}
-use Rattle.slips.proofs.Loops.Standing.{Stands, cut_stands, fill_placed, fill_slips}
 use Rattle.slips.proofs.Loops.Beside.{AllRising, Low, AllLow}
 use Rattle.slips.proofs.Loops.Merges.{merge_is}
 
@@ -76,53 +74,39 @@ long_refused s b l = rw (lt-ltb longest (length s) l)
 
 -- what `read` has found
 
-refused_pick : (r : told.Refused) (c : Cut) → Err r ≡ placed c → c ≡ Fault r.number r.place
+refused_pick : (r : told.Refused) (c : Cut) → Err r ≡ filled c → c ≡ Fault r.number r.place
 refused_pick r (Slips ss) q = absurd cc
 refused_pick r (Fault k p) q = let e = same_refusal q in rw (e.0, e.1)
 
-pub read_refused : (s b : List ℕ) → length s ≤ longest → (r : told.Refused) → Err r ≡ placed (cut_of b) → Err r ≡ check_of s b
+pub read_refused : (s b : List ℕ) → length s ≤ longest → (r : told.Refused) → Err r ≡ filled (cut_of b) → Err r ≡ check_of s b
 unfolding check_of
 read_refused s b l r q = rw (le-ltb longest (length s) l, refused_pick r (cut_of b) q)
 
--- places were read: those of the slips that were cut, and the last of them empty
-record Standing (b : List ℕ) (ps : List Place) : Type 0 where
-  slips : List Slip
-  cut : cut_of b ≡ Slips slips
-  are : ps ≡ places_of 0 slips ++ replicate (slip_limit - length slips) nowhere
+-- slips were read: those that were cut, and empty ones
+module _ (s b : List ℕ) (bs : Bytes s) (bb : Bytes b) (ss : List Slip) (cut : cut_of b ≡ Slips ss) where
+  abbrev all : List (List Entry)
+  all = entries_on ss ++ replicate (slip_limit - length ss) []
 
-read_pick : (b : List ℕ) (ps : List Place) (c : Cut) → cut_of b ≡ c → Ok ps ≡ placed c → Standing b ps
-read_pick b ps (Slips ss) e q = record { slips = ss; cut = e; are = cc }
-read_pick b ps (Fault k p) e q = absurd cc
+  merged : (n : ℕ) → walk_of s ≡ Count n → merge_of (objects_of s) all ≡ trouble_of (objects_of s) (entries_on ss)
+  merged n e =
+      let i = (walk_exact s n).0 e in
+      let up : Rising (objects_of s) = rw (log_objects i.1) (entries_rise i.1) in
+      let rule = ((bundle_exact b ss bb).0 cut).rule in
+      let m = slip_limit - length ss in
+      merge_is (objects_of s) up _ (rule_rise 0 ss m rule) (rule_low 0 ss m rule) ∙ trouble_fill (objects_of s) (entries_on ss) m
 
-module _ (b : List ℕ) (ps : List Place) (q : Ok ps ≡ placed (cut_of b)) where
-  read : Standing b ps
-  read = read_pick b ps (cut_of b) refl q
+  answered : (w : Walked) → walk_of s ≡ w → answer_of w (merge_of (objects_of s) all) ≡ answer_of w (trouble_of (objects_of s) (entries_on ss))
+  answered (Count n) e = rw (merged n e)
+  answered (Err r) e = refl
 
-  stands : Stands b 0 read.slips
-  unfolding cut_of
-  stands = cut_stands b slip_limit 0 0 read.slips read.cut
+  read_all : length s ≤ longest → merge_log_of s all ≡ check_of s b
+  unfolding merge_log_of check_of
+  read_all l = rw (le-ltb longest (length s) l, cut) (answered (walk_of s) refl)
 
-  pub read_placed : AllPlaced b ps
-  read_placed = rw read.are (fill_placed b (places_of 0 read.slips) (slip_limit - length read.slips) stands.placed)
+module _ (s b : List ℕ) (bs : Bytes s) (bb : Bytes b) (l : length s ≤ longest) (qs : List (List Entry)) where
+  read_pick : (c : Cut) → cut_of b ≡ c → Ok qs ≡ filled c → merge_log_of s qs ≡ check_of s b
+  read_pick (Slips ss) e q = let z : qs ≡ entries_on ss ++ replicate (slip_limit - length ss) [] = cc in rw z (read_all s b bs bb ss e l)
+  read_pick (Fault k p) e q = absurd cc
 
-  entries : slips_at b ps ≡ entries_on read.slips ++ replicate (slip_limit - length read.slips) []
-  entries =
-      let m = slip_limit - length read.slips in
-      ap (slips_at b) read.are ∙ fill_slips b (places_of 0 read.slips) m ∙ ap (λ (l : List (List Entry)). l ++ replicate m []) stands.same
-
-  module _ (s : List ℕ) (bs : Bytes s) (bb : Bytes b) where
-    merged : (n : ℕ) → walk_of s ≡ Count n → merge_of (objects_of s) (slips_at b ps) ≡ trouble_of (objects_of s) (entries_on read.slips)
-    merged n e =
-        let i = (walk_exact s n).0 e in
-        let up : Rising (objects_of s) = rw (log_objects i.1) (entries_rise i.1) in
-        let rule = ((bundle_exact b read.slips bb).0 read.cut).rule in
-        let m = slip_limit - length read.slips in
-        rw entries (merge_is (objects_of s) up _ (rule_rise 0 read.slips m rule) (rule_low 0 read.slips m rule) ∙ trouble_fill (objects_of s) (entries_on read.slips) m)
-
-    answered : (w : Walked) → walk_of s ≡ w → answer_of w (merge_of (objects_of s) (slips_at b ps)) ≡ answer_of w (trouble_of (objects_of s) (entries_on read.slips))
-    answered (Count n) e = rw (merged n e)
-    answered (Err r) e = refl
-
-    pub read_merged : length s ≤ longest → merge_log_of s b ps ≡ check_of s b
-    unfolding merge_log_of check_of
-    read_merged l = rw (le-ltb longest (length s) l, read.cut) (answered (walk_of s) refl)
+  pub read_merged : Ok qs ≡ filled (cut_of b) → merge_log_of s qs ≡ check_of s b
+  read_merged q = read_pick (cut_of b) refl q

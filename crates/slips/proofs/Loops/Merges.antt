@@ -14,11 +14,11 @@ use Rattle.objects.specs.Rising.{Above, Rising}
 use Rattle.slips.specs.Right.{times_all}
 use Rattle.slips.specs.Trouble.{StrayAt, TwiceAt, UnlistedAt, InTrouble, Trouble, None, Found, First}
 use Rattle.slips.specs.Soonest.{trouble_of}
-use Rattle.slips.specs.Inner.Merge.{the_end, or_later, merge_of}
+use Rattle.slips.specs.Inner.Merge.{the_end, moved_of, hits_of, or_later, merge_of}
 use Rattle.slips.proofs.Trouble.Entries.{start_same, in_above}
 use Rattle.slips.proofs.Trouble.Least.{Before, before_le, one_least}
 use Rattle.slips.proofs.Trouble.Troubles.{trouble_is_first}
-use Rattle.slips.proofs.Loops.Beside.{hits, moves, AllRising, AllLow, AllFine, all_low, all_times, all_later, all_in, all_moved, all_least, all_rising, moves_low, on_low}
+use Rattle.slips.proofs.Loops.Beside.{AllRising, AllLow, AllFine, all_low, all_times, all_later, all_in, all_moved, all_least, all_rising, moves_low, on_low}
 use Rattle.slips.proofs.Loops.Strays.{Strays, sort}
 
 -- what holds at each trouble of a kind holds at each trouble
@@ -64,7 +64,7 @@ module _ (o : Entry) (os : List Entry) (up : Above o.start os) (ss : List (List 
         (λ q. absurd (t.2 (inl q.0)))
         (λ j. let l = (all_moved o ss f t.0 j).1 in omega (arith, t.3)) (all_in o ss f t.0 t.1)
 
-    unlisted_first : hits o ss ≡ 0 → First (o ∷ os) ss (Found 27 o.start)
+    unlisted_first : hits_of o ss ≡ 0 → First (o ∷ os) ss (Found 27 o.start)
     unlisted_first z =
         let n : times_all o ss ≡ 0 = all_times o ss f ∙ z in (
           inr (inr (refl, (o, inl refl, n, refl))),
@@ -76,7 +76,7 @@ module _ (o : Entry) (os : List Entry) (up : Above o.start os) (ss : List (List 
               (λ x t. before_le 27 o.start 27 x (not_below t.0 x t.1 t.3) (omega arith)),
         )
 
-    twice_is_first : 2 ≤ hits o ss → First (o ∷ os) ss (Found 26 o.start)
+    twice_is_first : 2 ≤ hits_of o ss → First (o ∷ os) ss (Found 26 o.start)
     twice_is_first z =
         let n = all_times o ss f in (
           inr (inl (refl, (o, inl refl, omega arith, refl))),
@@ -87,22 +87,22 @@ module _ (o : Entry) (os : List Entry) (up : Above o.start os) (ss : List (List 
         )
 
     -- behind an object that stands on one slip, trouble is what it was
-    later : (e : Entry) → In e os → times_all e ss ≡ times_all e (moves o ss)
+    later : (e : Entry) → In e os → times_all e ss ≡ times_all e (moved_of o ss)
     later e i = all_later o ss f e (in_above o.start e os up i)
 
-    forth : (k x : ℕ) → InTrouble os (moves o ss) k x → InTrouble (o ∷ os) ss k x
+    forth : (k x : ℕ) → InTrouble os (moved_of o ss) k x → InTrouble (o ∷ os) ss k x
     forth =
-        troubled os (moves o ss) (InTrouble (o ∷ os) ss)
+        troubled os (moved_of o ss) (InTrouble (o ∷ os) ss)
         (λ x t.
         let m = all_moved o ss f t.0 t.1 in
         inl (refl, (t.0, m.0, (λ i. ⊎_elim (λ q. let z = start_same q in omega (arith, m.1)) t.2 i), t.3)))
         (λ x t. inr (inl (refl, (t.0, inr t.1, omega (arith, later t.0 t.1, t.2), t.3))))
         (λ x t. inr (inr (refl, (t.0, inr t.1, omega (arith, later t.0 t.1, t.2), t.3))))
 
-    back : hits o ss ≡ 1 → (k x : ℕ) → InTrouble (o ∷ os) ss k x → InTrouble os (moves o ss) k x
+    back : hits_of o ss ≡ 1 → (k x : ℕ) → InTrouble (o ∷ os) ss k x → InTrouble os (moved_of o ss) k x
     back z =
         let one : times_all o ss ≡ 1 = all_times o ss f ∙ z in
-        troubled (o ∷ os) ss (InTrouble os (moves o ss))
+        troubled (o ∷ os) ss (InTrouble os (moved_of o ss))
         (λ x t. ⊎_elim (λ q. absurd (t.2 (inl q.0))) (λ j. inl (refl, (t.0, j, (λ i. t.2 (inr i)), t.3))) (all_in o ss f t.0 t.1))
         (λ x t. ⊎_elim
         (λ q. absurd (let m : times_all t.0 ss ≡ 1 = rw q one in omega (arith, t.2)))
@@ -111,23 +111,23 @@ module _ (o : Entry) (os : List Entry) (up : Above o.start os) (ss : List (List 
         (λ q. absurd (let m : times_all t.0 ss ≡ 1 = rw q one in omega (arith, t.2)))
         (λ j. inr (inr (refl, (t.0, j, omega (arith, later t.0 j, t.2), t.3)))) t.1)
 
-    on_first : hits o ss ≡ 1 → (t : Trouble) → First os (moves o ss) t → First (o ∷ os) ss t
+    on_first : hits_of o ss ≡ 1 → (t : Trouble) → First os (moved_of o ss) t → First (o ∷ os) ss t
     on_first z None n = λ k x i. n k x (back z k x i)
     on_first z (Found k x) n = (forth k x n.0, λ k' x' i. n.1 k' x' (back z k' x' i))
 
-    settled : (t u : Bool) → eqb (hits o ss) 0 ≡ t → eqb (hits o ss) 1 ≡ u → (r : Trouble) → First os (moves o ss) r
+    settled : (t u : Bool) → eqb (hits_of o ss) 0 ≡ t → eqb (hits_of o ss) 1 ≡ u → (r : Trouble) → First os (moved_of o ss) r
         → First (o ∷ os) ss (or_later (cond t (Found 27 o.start) (cond u None (Found 26 o.start))) r)
     settled true u et eu r n = unlisted_first (eqb-true _ _ et)
     settled false true et eu r n = on_first (eqb-true _ _ eu) r n
-    settled false false et eu r n = twice_is_first (let a = eqb-false (hits o ss) 0 et in let b = eqb-false (hits o ss) 1 eu in omega arith)
+    settled false false et eu r n = twice_is_first (let a = eqb-false (hits_of o ss) 0 et in let b = eqb-false (hits_of o ss) 1 eu in omega arith)
 
 merge_first : (os : List Entry) → Rising os → (ss : List (List Entry)) → AllRising ss → AllLow ss → First os ss (merge_of os ss)
 merge_first [] up ss r w = end ss w (sort the_end ss r)
 merge_first (o ∷ os) up ss r w =
     ⊎_elim
     (λ f.
-    let ih = merge_first os up.1 (moves o ss) (all_rising o ss f r) (moves_low o ss w) in
-    rw (all_low o ss f) (settled o os up.0 ss f (eqb (hits o ss) 0) (eqb (hits o ss) 1) refl refl _ ih))
+    let ih = merge_first os up.1 (moved_of o ss) (all_rising o ss f r) (moves_low o ss w) in
+    rw (all_low o ss f) (settled o os up.0 ss f (eqb (hits_of o ss) 0) (eqb (hits_of o ss) 1) refl refl _ ih))
     (λ t. rw t.is (stray_first o os up.0 ss t))
     (sort o ss r)
 

@@ -11,32 +11,32 @@ use Rattle.std.specs.Prelude.{Some}
 use Rattle.objects.specs.declared.Entry.{Entry}
 use Rattle.objects.specs.Named.{In}
 use Rattle.slips.specs.Right.{On}
-use Rattle.slips.specs.Inner.Merge.{compare_of, lower}
-use Rattle.slips.proofs.Loops.Beside.{low, AllRising, Strayed, Fine, beside, fine_lower, AllFine, all_low, all_least}
+use Rattle.slips.specs.Inner.Merge.{compare_of, lower, low_of}
+use Rattle.slips.proofs.Loops.Beside.{AllRising, Strayed, Fine, beside, fine_lower, AllFine, all_low, all_least}
 
 -- the lowest of the strays
 pub record Strays (o : Entry) (ss : List (List Entry)) : Type 0 where
   pub entry : Entry
   pub here : On entry ss
-  pub is : low o ss ≡ Some entry.start
+  pub is : low_of o ss ≡ Some entry.start
   pub not_above : entry.start ≤ o.start
   pub other : (entry ≡ o) → ⊥
   pub lowest : (e : Entry) → On e ss → entry.start ≤ e.start
 
 module _ (o : Entry) (s : List Entry) (ss : List (List Entry)) where
   -- the strays behind a slip have the lowest of all
-  behind : (t : Strays o ss) → lower (compare_of o s) (low o ss) ≡ Some t.entry.start → ((e : Entry) → In e s → t.entry.start ≤ e.start) → Strays o (s ∷ ss)
+  behind : (t : Strays o ss) → lower (compare_of o s) (low_of o ss) ≡ Some t.entry.start → ((e : Entry) → In e s → t.entry.start ≤ e.start) → Strays o (s ∷ ss)
   behind t z l =
       record { entry = t.entry; here = inr t.here; is = z; not_above = t.not_above; other = t.other; lowest = λ e. ⊎_elim (l e) (t.lowest e) }
 
   -- the slip's own stray is the lowest of all
-  front : (u : Strayed o s) → lower (compare_of o s) (low o ss) ≡ Some u.entry.start → ((e : Entry) → On e ss → u.entry.start ≤ e.start) → Strays o (s ∷ ss)
+  front : (u : Strayed o s) → lower (compare_of o s) (low_of o ss) ≡ Some u.entry.start → ((e : Entry) → On e ss → u.entry.start ≤ e.start) → Strays o (s ∷ ss)
   front u z l =
       record { entry = u.entry; here = inl u.here; is = z; not_above = u.not_above; other = u.other; lowest = λ e. ⊎_elim (u.lowest e) (l e) }
 
   after_fine : Fine o s → Strays o ss → Strays o (s ∷ ss)
   after_fine f t =
-      behind t (fine_lower o s f (low o ss) ∙ t.is)
+      behind t (fine_lower o s f (low_of o ss) ∙ t.is)
       (λ e j. let l = all_least o (s ∷ []) (f, tt) e (inl j) in let m = t.not_above in omega arith)
 
   before_fine : Strayed o s → AllFine o ss → Strays o (s ∷ ss)
