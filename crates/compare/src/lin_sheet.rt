@@ -8,10 +8,10 @@ use objects::Cursor;
 
 // The bits of a rate; those of one NaN for all.
 fn bits(exact: f64) -> u64 {
-    if exact != exact {
+    if exact.is_nan() {
         return 0x7ff8_0000_0000_0000;
     }
-    f64::to_bits(exact)
+    exact.to_bits()
 }
 
 // A number for the way in which the message ends, 0, 1 or 2, and what it ends with.

@@ -10,20 +10,6 @@ use std::io::Read;
 // The most bytes of a log, and of a bundle.
 const LIMIT: usize = 65536;
 
-// Room for the largest case.
-fn room() -> [u8; 131089]
-    ensures { 131089 ≡ length result }
-{
-    [0; 131089]
-}
-
-// Room for a reply and for a log written again.
-fn page() -> [u8; 65576]
-    ensures { 65576 ≡ length result }
-{
-    [0; 65576]
-}
-
 // How many bytes the case has that a head of 17 bytes opens; none where the log or the bundle is above the limit.
 fn whole(head: &[u8]) -> Option<usize>
     requires { 17 ≤ length head.now }
@@ -110,8 +96,9 @@ fn tell<P: Print>(output: &P, case: &[u8], out: &mut [u8]) -> io::Result<()>
 
 // Answers case after case, until the input ends: at most so many.
 pub fn serve<R: Read, P: Print>(input: &mut R, output: &P, most: usize) {
-    let mut buf = room();
-    let mut out = page();
+    // room for the largest case, and for a reply and a log written again
+    let mut buf = [0u8; 131089];
+    let mut out = [0u8; 65576];
     for _ in 0..most {
         let Some(n) = next_case(input, &mut buf) else {
             return;

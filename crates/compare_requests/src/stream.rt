@@ -10,13 +10,6 @@ use std::io::Read;
 // The most bytes of a part, and of a room.
 pub const LIMIT: usize = 4096;
 
-// Room for the largest case; and for a reply, whose word and numbers stand before the room of a case.
-fn space() -> [u8; 8209]
-    ensures { 8209 ≡ length result }
-{
-    [0; 8209]
-}
-
 // Puts numbers one behind the other, each in eight bytes.
 pub fn put_all(out: &mut [u8], from: usize, values: &[u64])
     requires { from + 8 * length values.now ≤ length out.old }
@@ -97,8 +90,9 @@ fn tell<P: Print>(output: &P, case: &[u8], out: &mut [u8]) -> Option<()>
 
 // Answers case after case, until the input ends: at most so many.
 pub fn serve<R: Read, P: Print>(input: &mut R, output: &P, most: usize) {
-    let mut buf = space();
-    let mut out = space();
+    // room for the largest case; and for a reply, whose word and numbers stand before the room of a case
+    let mut buf = [0u8; 8209];
+    let mut out = [0u8; 8209];
     for _ in 0..most {
         let Some(n) = next_case(input, &mut buf) else {
             return;

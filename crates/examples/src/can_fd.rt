@@ -51,12 +51,10 @@ pub fn sizes(rt: &impl Print) -> io::Result<()> {
         116,
     )?;
     let read = can_records::read_message(&log, Cursor::new());
-    let told = read.told;
-    tell::read(rt, b"read as a CAN message: ", told)?;
+    tell::read(rt, b"read as a CAN message: ", read.told)?;
     log[8] = 120;
     let read = can_records::read_message(&log, Cursor::new());
-    let told = read.told;
-    tell::read(rt, b"the same with 120 bytes: ", told)
+    tell::read(rt, b"the same with 120 bytes: ", read.told)
 }
 
 pub fn writing(rt: &impl Print) -> io::Result<()> {

@@ -112,29 +112,23 @@ pub fn counts(rt: &impl Print) -> io::Result<()> {
     let mut log = samples::room();
     flexray_records::write_receive(samples::receive(2, 254, 254), &mut log);
     let read = flexray_records::read_receive(&log, Cursor::new());
-    let all = read.told;
-    tell::read(rt, b"data count 254 of 254: ", all)?;
+    tell::read(rt, b"data count 254 of 254: ", read.told)?;
     log[54] = 255;
     log[56] = 255;
     let read = flexray_records::read_receive(&log, Cursor::new());
-    let above = read.told;
-    tell::read(rt, b"data count 255 of 255: ", above)?;
+    tell::read(rt, b"data count 255 of 255: ", read.told)?;
     log[54] = 9;
     log[56] = 10;
     let read = flexray_records::read_receive(&log, Cursor::new());
-    let more = read.told;
-    tell::read(rt, b"data count 10 of 9: ", more)
+    tell::read(rt, b"data count 10 of 9: ", read.told)
 }
 
 pub fn records(rt: &impl Print) -> io::Result<()> {
     let log = samples::overload();
     let read = can_records::read_overload(&log, Cursor::new());
-    let same = read.told;
-    tell::read(rt, b"an overload, read as an overload: ", same)?;
+    tell::read(rt, b"an overload, read as an overload: ", read.told)?;
     let read = lin_records::read_wake_up(&log, Cursor::new());
-    let other = read.told;
-    tell::read(rt, b"an overload, read as a wake-up: ", other)?;
+    tell::read(rt, b"an overload, read as a wake-up: ", read.told)?;
     let read = can_records::read_overload(&log, Cursor { at: 36 });
-    let end = read.told;
-    tell::read(rt, b"behind an overload, read as an overload: ", end)
+    tell::read(rt, b"behind an overload, read as an overload: ", read.told)
 }

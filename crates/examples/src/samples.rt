@@ -4,13 +4,17 @@ ghost use Rattle.std.specs.Prelude.{◌≡◌, ◌≤◌, ◌<◌, length};
 use headers::{Header, Origin};
 use outcomes::Written;
 
+// Writes an overload of channel 1 to the front of `out`.
+pub fn put_overload(header: Header, out: &mut [u8]) -> Written {
+    can_records::write_overload(can::Overload { header, channel: 1 }, out)
+}
+
 // The overload of document 01's M2.
 pub fn overload() -> [u8; 36]
     ensures { 36 ≡ length result }
 {
     let mut log = [0u8; 36];
-    let header = header(2);
-    can_records::write_overload(can::Overload { header, channel: 1 }, &mut log);
+    put_overload(header(2), &mut log);
     log
 }
 
@@ -19,8 +23,7 @@ pub fn second_overload() -> [u8; 44]
     ensures { 44 ≡ length result }
 {
     let mut log = [0u8; 44];
-    let header = second();
-    can_records::write_overload(can::Overload { header, channel: 1 }, &mut log);
+    put_overload(second(), &mut log);
     log
 }
 
@@ -48,9 +51,8 @@ pub fn frame() -> [u8; 1680]
 
 // Writes a frame of these bytes to the front of `out`.
 pub fn put_frame(bytes: &[u8], out: &mut [u8]) -> Written {
-    let header = header(2);
     let mut frame = ethernet_records::frame_in(&[0u8; 64]);
-    frame.header = header;
+    frame.header = header(2);
     ethernet_records::write_frame(frame, bytes, out)
 }
 

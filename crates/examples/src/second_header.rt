@@ -73,9 +73,8 @@ pub fn frames(rt: &impl Print) -> io::Result<()> {
 }
 
 pub fn rooms(rt: &impl Print) -> io::Result<()> {
-    let header = samples::second();
     let mut short = [0u8; 43];
-    let none = can_records::write_overload(can::Overload { header, channel: 1 }, &mut short);
+    let none = samples::put_overload(samples::second(), &mut short);
     tell::write(
         rt,
         b"writing an overload under the second header into 43 bytes: ",

@@ -1,33 +1,31 @@
 // Examples of W-205: the place of a refusal is the byte at fault. Of a field it is the first, of reserved bytes and of
 // padding the first wrong one.
+ghost use Rattle.std.specs.Prelude.{◌<◌};
+
 use crate::{samples, tell};
 use std::io;
 
+// What a walk of two overloads answers, one byte set to another.
+fn walk_with(rt: &impl Print, words: &[u8], at: usize, byte: u8) -> io::Result<()>
+    requires { at < 72 }
+{
+    tell::walk(rt, words, &samples::twice_with(at, byte))
+}
+
 // The second of two overloads: every place counts from the log's first byte.
 pub fn fields(rt: &impl Print) -> io::Result<()> {
-    tell::walk(
+    walk_with(
         rt,
         b"two overloads, the second's last signature letter 0: ",
-        &samples::twice_with(39, 0),
+        39,
+        0,
     )?;
-    tell::walk(rt, b"its object size 40: ", &samples::twice_with(44, 40))?;
-    tell::walk(rt, b"its header size 33: ", &samples::twice_with(40, 33))?;
-    tell::walk(rt, b"its header version 2: ", &samples::twice_with(42, 2))?;
-    tell::walk(
-        rt,
-        b"the last byte of its time unit 1: ",
-        &samples::twice_with(55, 1),
-    )?;
-    tell::walk(
-        rt,
-        b"its reserved byte 34 is 1: ",
-        &samples::twice_with(70, 1),
-    )?;
-    tell::walk(
-        rt,
-        b"its reserved byte 35 is 1: ",
-        &samples::twice_with(71, 1),
-    )?;
+    walk_with(rt, b"its object size 40: ", 44, 40)?;
+    walk_with(rt, b"its header size 33: ", 40, 33)?;
+    walk_with(rt, b"its header version 2: ", 42, 2)?;
+    walk_with(rt, b"the last byte of its time unit 1: ", 55, 1)?;
+    walk_with(rt, b"its reserved byte 34 is 1: ", 70, 1)?;
+    walk_with(rt, b"its reserved byte 35 is 1: ", 71, 1)?;
     tell::walk_first(
         rt,
         b"without its last byte: ",

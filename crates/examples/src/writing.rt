@@ -4,18 +4,15 @@ use std::io;
 
 pub fn units(rt: &impl Print) -> io::Result<()> {
     let mut out = samples::room();
-    let header = samples::header(0);
-    let none = can_records::write_overload(can::Overload { header, channel: 1 }, &mut out);
+    let none = samples::put_overload(samples::header(0), &mut out);
     tell::write(rt, b"writing an overload with time unit 0: ", none)?;
-    let header = samples::header(2);
-    let some = can_records::write_overload(can::Overload { header, channel: 1 }, &mut out);
+    let some = samples::put_overload(samples::header(2), &mut out);
     tell::write(rt, b"writing an overload in nanoseconds: ", some)
 }
 
 pub fn rooms(rt: &impl Print) -> io::Result<()> {
-    let header = samples::header(2);
     let mut short = [0u8; 35];
-    let none = can_records::write_overload(can::Overload { header, channel: 1 }, &mut short);
+    let none = samples::put_overload(samples::header(2), &mut short);
     tell::write(rt, b"writing an overload into 35 bytes: ", none)?;
     let mut unpadded = [0u8; 331];
     let none = flexray_records::write_receive(samples::receive(2, 4, 4), &mut unpadded);

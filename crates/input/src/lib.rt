@@ -18,8 +18,8 @@ pub fn buffer() -> [u8; 65537]
     [0; 65537]
 }
 
-// Reads until the input ends, the buffer is full or a read fails: how many bytes came, or none of these where one failed.
-// Pieces may be small.
+// Reads until the input ends or the buffer is full, and answers how many bytes came; none where a read fails. Pieces may
+// be small.
 pub fn read_all<R: Read>(from: &mut R, buf: &mut [u8]) -> Option<usize>
     ensures { Taken result buf.old buf.new }
 {
