@@ -4,12 +4,12 @@ use mathlib.Core.Path.{◌≡◌, refl, sym, ap, ◌∙◌}
 use mathlib.Core.List.{List, []}
 use native.Mathlib.Omega.{arith}
 use lib.ListN.{length}
+use Rattle.std.specs.Prelude.{Err}
 use borrow.Author.Tests.{le-leb, lt-leb}
 use Rattle.fields.specs.Written.{Wrote}
 use Rattle.fields.proofs.Writing.{front}
 use Rattle.outcomes.specs.declared.Looked.{Looked}
-use Rattle.outcomes.specs.declared.Written.{Written}
-use Rattle.outcomes.specs.declared.Written.TheVariants as written
+use Rattle.outcomes.specs.Answers.{Written, Used}
 use Rattle.outcomes.specs.Replies.{written_reply}
 use Rattle.outcomes.specs.Reads.{look_at, cut_of}
 use Rattle.outcomes.specs.Writes.{Outcome}
@@ -38,8 +38,8 @@ module _ (s : List ℕ) (at kind : ℕ) (x us : List ℕ) {l : Looked} {o : List
 
 -- whatever a write answers, one value is told
 pub one : (w : Written) → length (told_of (written_reply w)).values ≡ 1
-one (written.Used n) = refl
-one (written.Refused k p) = refl
+one (Used n) = refl
+one (Err r) = refl
 
 module _ (o x us : List ℕ) where
   pub unwritten : length us < 1 → Filled (write_reply o x) (write_into o x) 10 x x us us
