@@ -1,5 +1,4 @@
 pub mod Turning
 pub mod Counting
 pub mod Filling
-pub mod Rooms
 pub mod Comparisons

@@ -25,6 +25,7 @@ pub enum LogRefusal {
 // log has it, 3 where only the second has. Where a log has no such object its length stands for the start. Answers how
 // many rows stand at the front of each slice. After a refusal the slices are as they were, and so are the numbers
 // behind the rows.
+#[tactic(auto, unfolding(crate::specs::Columns::room))]
 pub fn compare(
     first: &[u8],
     second: &[u8],

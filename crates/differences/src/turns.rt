@@ -82,6 +82,7 @@ fn pair_of(
 }
 
 // A step in each log.
+#[tactic(auto, unfolding(crate::specs::Turns::turn_of))]
 fn take_turn(first: &[u8], c: Cursor, second: &[u8], d: Cursor) -> Turn
     ensures { result ≡ turn_of first.now c.at second.now d.at }
 {
@@ -137,6 +138,7 @@ pub(crate) fn count(first: &[u8], second: &[u8]) -> Result<usize, LogRefusal>
 }
 
 // Lists one row at a place of the slices.
+#[tactic(auto, unfolding(crate::specs::Columns::room, crate::specs::Columns::listed_at))]
 fn put_row(
     numbers: &mut [u64],
     firsts: &mut [u64],
