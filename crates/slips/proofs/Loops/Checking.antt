@@ -1,4 +1,4 @@
--- `check` puts the bundle's reading and the one pass together; the merge of the places is the trouble of the slips.
+-- `check` puts the bundle's reading and the one pass together; the merge of the slips is their trouble.
 -- Assumes nothing.
 use mathlib.Core.Path.{◌≡◌, refl, ap, ◌∙◌}
 use mathlib.Core.List.{List, [], ◌∷◌, ◌++◌}

@@ -1,5 +1,4 @@
--- The one pass over the log: what `merge_log` and `walk_on` know before each turn, and what each way out answers.
--- Assumes nothing.
+-- The one pass over the log: what `merge_log` knows before each turn, and what each way out answers. Assumes nothing.
 use mathlib.Core.Path.{◌≡◌, refl, sym, ap, ◌∙◌}
 use mathlib.Core.List.{List}
 use Prim.Native.Nat.{ℕ, ◌+◌, ◌-◌, ◌<◌}

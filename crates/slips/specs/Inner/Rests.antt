@@ -1,5 +1,5 @@
--- 01: "The check keeps one reading place for each of the eight slips." What is left of the slips of a bundle, as code has
--- it, parts of the bundle itself, and as the entries that stand there.
+-- 01: "The check keeps one reading place for each of the eight slips." What is left of the slips of a bundle: as code
+-- has it, parts of the bundle itself, and as the entries that stand there.
 use Rattle.std.specs.Prelude.{ℕ, ◌-◌, ◌/◌, List, [], ◌++◌, length, map, replicate, Result, Ok, Err}
 use Rattle.std.specs.Borrow.{Bor}
 use Rattle.headers.specs.Refused.{Refused, refusal}

@@ -1,5 +1,5 @@
--- `slips::Slips::advance` meets its contract: before each turn the first slips are moved and the others stand where they stood
--- (`Turning`), and each turn moves one more. Assumes nothing.
+-- `slips::Slips::advance` meets its contract: before each turn the first slips are moved and the others stand where they
+-- stood (`Turning`), and each turn moves one more. Assumes nothing.
 use mathlib.Core.Path.{◌≡◌, refl, sym, ◌∙◌}
 use native.Mathlib.Omega.{arith}
 use borrow.Author.Rules.{rules}

@@ -1,5 +1,5 @@
--- `slips::Slips::advance` meets its contract: before each turn the first slips are moved and the others stand where they stood
--- (`Turning`), and each turn moves one more. Assumes nothing.
+-- `slips::Slips::advance` meets its contract: before each turn the first slips are moved and the others stand where they
+-- stood (`Turning`), and each turn moves one more. Assumes nothing.
 use Rattle.slips.specs.Inner.Rests.{slips_in}
 use Rattle.slips.proofs.Loops.Turns.{Turning}
 use Rattle.slips.proofs.bundle.Slips.advance.Given as goal

@@ -1,5 +1,5 @@
--- `slips::Slips::read` meets its contract: before each turn the slips that are cut off are the bundle's first, and what is
--- left decides (`Cutting`). Assumes nothing.
+-- `slips::Slips::read` meets its contract: before each turn the slips that are cut off are the bundle's first, and
+-- what is left decides (`Cutting`). Assumes nothing.
 use mathlib.Core.Path.{◌≡◌, refl, sym}
 use mathlib.Core.List.{List}
 use Prim.Native.Nat.{ℕ, ◌+◌, ◌<◌}

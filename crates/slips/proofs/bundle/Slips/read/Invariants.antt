@@ -1,5 +1,5 @@
--- `slips::Slips::read` meets its contract: before each turn the slips that are cut off are the bundle's first, and what is left
--- decides (`Cutting`). Assumes nothing.
+-- `slips::Slips::read` meets its contract: before each turn the slips that are cut off are the bundle's first, and
+-- what is left decides (`Cutting`). Assumes nothing.
 use Rattle.slips.specs.Inner.Rests.{slips_in}
 use Rattle.slips.proofs.Loops.Cutting.{Cutting}
 use Rattle.slips.proofs.bundle.Slips.read.Given as goal
