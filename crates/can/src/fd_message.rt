@@ -44,6 +44,8 @@ impl Record for FdMessage {
 
     ghost rules = { fd_message_format.rules };
 
+    ghost short = { refl };
+
     const LENGTH: usize = 88;
 
     fn get(h: Header, b: &[u8]) -> Self {

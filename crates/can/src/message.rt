@@ -29,6 +29,8 @@ impl Record for Message {
 
     ghost rules = { message_format.rules };
 
+    ghost short = { refl };
+
     const LENGTH: usize = 16;
 
     fn get(h: Header, b: &[u8]) -> Self {

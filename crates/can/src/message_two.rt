@@ -27,6 +27,8 @@ impl Record for MessageTwo {
 
     ghost rules = { message_two_format.rules };
 
+    ghost short = { refl };
+
     const LENGTH: usize = 24;
 
     fn get(h: Header, b: &[u8]) -> Self {

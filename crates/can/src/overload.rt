@@ -24,6 +24,8 @@ impl Record for Overload {
 
     ghost rules = { overload_format.rules };
 
+    ghost short = { refl };
+
     const LENGTH: usize = 4;
 
     fn get(h: Header, b: &[u8]) -> Self {

@@ -33,6 +33,8 @@ impl Record for Statistic {
 
     ghost rules = { statistic_format.rules };
 
+    ghost short = { refl };
+
     const LENGTH: usize = 28;
 
     fn get(h: Header, b: &[u8]) -> Self {

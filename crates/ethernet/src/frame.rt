@@ -1,7 +1,7 @@
 // The Ethernet frame, type 120, and the forwarded frame, type 121.
 #![tactic(auto, unfolding(crate::specs::Fields::frame_of, headers::specs::HeadTests::first))]
 
-ghost use Rattle.std.specs.Prelude.{◌≡◌, ◌+◌, ◌≤◌, length, drop};
+ghost use Rattle.std.specs.Prelude.{refl, ◌≡◌, ◌+◌, ◌≤◌, length, drop};
 ghost use Rattle.fields.specs.Written.{Wrote};
 ghost use Rattle.fields.specs.Slots.{bytes_of};
 ghost use Rattle.ethernet.specs.Fields.{structure_length, longest_frame, frame_of, frame_format};
@@ -32,6 +32,8 @@ impl Record for Frame {
     ghost gaps = { frame_format.gaps };
 
     ghost rules = { frame_format.rules };
+
+    ghost short = { refl };
 
     const LENGTH: usize = 32;
 

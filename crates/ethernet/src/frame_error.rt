@@ -1,7 +1,7 @@
 // The Ethernet error, type 122, and the forwarded error, type 123: a frame that went wrong.
 #![tactic(auto, unfolding(crate::specs::Fields::error_of, headers::specs::HeadTests::first))]
 
-ghost use Rattle.std.specs.Prelude.{◌+◌, ◌≤◌, length};
+ghost use Rattle.std.specs.Prelude.{refl, ◌+◌, ◌≤◌, length};
 ghost use Rattle.fields.specs.Written.{Wrote};
 ghost use Rattle.fields.specs.Slots.{bytes_of};
 ghost use Rattle.ethernet.specs.Fields.{structure_length, longest_frame, error_of, error_format};
@@ -26,6 +26,8 @@ impl Record for FrameError {
     ghost gaps = { error_format.gaps };
 
     ghost rules = { error_format.rules };
+
+    ghost short = { refl };
 
     const LENGTH: usize = Frame::LENGTH;
 

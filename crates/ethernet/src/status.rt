@@ -34,6 +34,8 @@ impl Record for Status {
 
     ghost rules = { status_format.rules };
 
+    ghost short = { refl };
+
     const LENGTH: usize = 16;
 
     fn get(h: Header, b: &[u8]) -> Self {

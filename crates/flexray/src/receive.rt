@@ -50,6 +50,8 @@ impl Record for Receive {
 
     ghost rules = { receive_format.rules };
 
+    ghost short = { refl };
+
     const LENGTH: usize = 298;
 
     fn get(h: Header, b: &[u8]) -> Self {

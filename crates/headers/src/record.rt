@@ -1,6 +1,6 @@
 // What every listed type's record can do, so that calls are written once over any of them. What a type says of its own
 // stands in the ghost members: the page of its bus's fields has each.
-ghost use Rattle.std.specs.Prelude.{◌≡◌, ℕ, ◌+◌, ◌≤◌, Bool, true, List, length};
+ghost use Rattle.std.specs.Prelude.{◌≡◌, ℕ, ◌+◌, ◌≤◌, Bool, true, List, length, leb};
 ghost use Rattle.fields.specs.Rules.{Gap, shifted, blank, Rule, each_right};
 ghost use Rattle.fields.specs.Written.{Wrote};
 ghost use Rattle.fields.specs.Wrong as wrong;
@@ -48,6 +48,9 @@ pub trait Record: Copy {
     fn wrong_field(b: &[u8]) -> usize
         requires { LENGTH ≤ length b.now }
         ensures { result ≡ wrong.wrong_field (rules b.now) };
+
+    // No type's shortest body is longer than FlexRay receive's.
+    ghost short: { leb LENGTH 298 ≡ true };
 }
 
 // A record that holds its whole body: it is written with nothing lent beside it.

@@ -30,6 +30,8 @@ impl Record for WakeUp {
 
     ghost rules = { wake_up_format.rules };
 
+    ghost short = { refl };
+
     const LENGTH: usize = 20;
 
     fn get(h: Header, b: &[u8]) -> Self {

@@ -1,30 +1,8 @@
--- `can_records::write_overload` meets its contract: refused, or header, body and padding; what is not refused is valid.
--- Assumes nothing.
-use mathlib.Core.Path.{refl, sym}
-use native.Mathlib.Omega.{arith}
+-- `can_records::write_overload` meets its contract: what its type writes, and is not refused, is valid. Assumes nothing.
 use Rattle.headers.specs.Types.{overload}
-use Rattle.headers.proofs.TypeKinds as list
-use Rattle.can.proofs.Laws.{overload_length}
 use Rattle.can.proofs.KnownLaws.{overload_known}
-use Rattle.outcomes.proofs.Writing.{allowed, refuses, body_room, pad_room, ends}
+use Rattle.outcomes.proofs.Writing.{record_written_by}
 use Rattle.can_records.proofs.overload.write_overload.Goals as goal
 
-pub returns-in_err-begin : goal.returns-in_err-begin
-returns-in_err-begin c = refuses overload _ c.begin.ensures refl refl (sym (overload_length c.args.r)) c.in_err-begin.was c.from_residual.ensures.1
-
-pub put_overload-requires : goal.put_overload-requires
-put_overload-requires c = omega (arith, body_room overload _ c.begin.ensures refl refl (sym (overload_length c.args.r)) c.in_ok-begin.was c.length.ensures)
-
-pub pad-requires : goal.pad-requires
-pad-requires c = omega (arith, pad_room overload _ c.begin.ensures refl refl (sym (overload_length c.args.r)) c.in_ok-begin.was c.size.ensures)
-
 pub returns : goal.returns
-returns c =
-    let r = c.args.r in
-    let b = c.begin.ensures in
-    let z = c.in_ok-begin.was in
-    let v = overload_known r c.well_formed.0 (allowed b z).unit in
-    ends overload r b refl refl (sym (overload_length r)) z v c.length.ensures c.size.ensures c.put_overload.ensures c.pad.ensures
-
-pub begin-requires : goal.begin-requires
-begin-requires c = list.known overload
+returns c = record_written_by overload c.args.r (λ u _. overload_known c.args.r c.well_formed.0 u) c.write_record.ensures
