@@ -3,18 +3,22 @@ ghost use Rattle.std.specs.Prelude.{◌≤◌, ◌≡◌, length};
 
 use crate::stream::{LIMIT, put_all};
 use objects::Cursor;
-use ring::{RingAnswer, RingStep};
+use ring::{Part, RingStep};
 
 fn stepped(step: RingStep) -> [u64; 5] {
-    let next = step.next;
-    let to = next.at as u64;
-    let answer = step.answer;
-    match answer {
-        RingAnswer::First { start, size, kind } => [7, start as u64, size as u64, kind as u64, to],
-        RingAnswer::Second { start, size, kind } => [8, start as u64, size as u64, kind as u64, to],
-        RingAnswer::Copied { start, size, kind } => [9, start as u64, size as u64, kind as u64, to],
-        RingAnswer::Done => [2, 0, 0, 0, to],
-        RingAnswer::Refused { number, place } => [3, number as u64, place as u64, 0, to],
+    let to = step.next.at as u64;
+    match step.answer {
+        Ok(Some(found)) => {
+            let o = found.object;
+            let number = match found.lies {
+                Part::First => 7,
+                Part::Second => 8,
+                Part::Both => 9,
+            };
+            [number, o.start as u64, o.size as u64, o.kind as u64, to]
+        }
+        Ok(None) => [2, 0, 0, 0, to],
+        Err(r) => [3, r.number() as u64, r.place() as u64, 0, to],
     }
 }
 
