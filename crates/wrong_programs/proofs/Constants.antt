@@ -26,7 +26,7 @@ use Rattle.lin.specs.Tail as lin-tail
 use Rattle.lin.specs.Tables as lin-table
 use Rattle.ethernet.specs.Fields as ethernet
 use Rattle.ethernet.specs.Tables as ethernet-table
-use Rattle.objects.specs.declared.Walked.TheVariants as walked
+use Rattle.objects.specs.Answers as walked
 use Rattle.objects.specs.Kinds.{Record, layout_of, find}
 use Rattle.objects.specs.Items.{known, bytes_of, padded}
 use Rattle.objects.specs.Next.{fault_of, answered, next_at}

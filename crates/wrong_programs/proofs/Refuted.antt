@@ -8,6 +8,7 @@ use native.Mathlib.Omega.{arith}
 use borrow.Author.Tests.{eq-eqb, not-true}
 use lib.ListN.{length, take, drop}
 use lib.Dec.{eqb}
+use Rattle.std.specs.Prelude.{Some, Ok, Err}
 use Rattle.fields.specs.Numbers.{val, num, big, nums, all_zero}
 use Rattle.fields.specs.Digits.{le, array}
 use Rattle.fields.specs.Slots as slots
@@ -23,10 +24,8 @@ use Rattle.can.specs.Fields.{overload_of, fd_message_of}
 use Rattle.can.specs.Tables.{message_slots, overload_slots}
 use Rattle.lin.specs.Fields.{tail_of, message_of}
 use Rattle.objects.specs.declared.Step.{Step}
-use Rattle.objects.specs.declared.Answer.{Answer}
-use Rattle.objects.specs.declared.Answer.TheVariants as answer
-use Rattle.objects.specs.declared.Walked.{Walked}
-use Rattle.objects.specs.declared.Walked.TheVariants as walked
+use Rattle.objects.specs.Answers.{Answer, Walked}
+use Rattle.objects.specs.Answers as answer
 use Rattle.objects.specs.Kinds.{find}
 use Rattle.objects.specs.Items.{bytes_of, padded}
 use Rattle.objects.specs.Faults.{gaps_of}
@@ -34,12 +33,13 @@ use Rattle.objects.specs.Next.{fault_of, place_in, answered, next_at}
 use Rattle.objects.specs.Stepping.{met_at}
 use Rattle.objects.specs.Walk.{walk_of}
 use Rattle.segments.specs.Joined.{crosses}
-use Rattle.ring.specs.declared.RingAnswer.{RingAnswer}
-use Rattle.ring.specs.declared.RingAnswer.TheVariants as rings
+use Rattle.ring.specs.declared.Part.{Part}
+use Rattle.ring.specs.declared.Part.TheVariants as part
+use Rattle.ring.specs.Answers.{RingAnswer}
+use Rattle.ring.specs.Answers as rings
 use Rattle.ring.specs.declared.RingStep.{RingStep}
 use Rattle.ring.specs.Ring.{fits, ring_fault, ring_place, placed, ring_answered, ring_on, ring_at}
 use Rattle.ring.specs.Handed.{scratch_at, ring_view_at}
-use Rattle.outcomes.specs.declared.Written.TheVariants as written
 use Rattle.outcomes.specs.Reads.{look_at, record_in, record_at}
 use Rattle.outcomes.specs.Writes.{foreign_ok, refusal_of, buffer_of}
 use Rattle.tray.specs.Answers as trays
@@ -47,8 +47,7 @@ use Rattle.tray.specs.Answers.{TrayAnswer}
 use Rattle.tray.specs.declared.Trayed.{Trayed}
 use Rattle.tray.specs.Tray.{together, message_at, messages_from, in_turn, tray_of}
 use Rattle.tray.specs.Claims.{each}
-use Rattle.slips.specs.declared.pass.Verdict.{Verdict}
-use Rattle.slips.specs.declared.pass.Verdict.TheVariants as verdict
+use Rattle.slips.specs.Verdicts.{Verdict, Accepted}
 use Rattle.slips.specs.Cut as cut
 use Rattle.slips.specs.Cut.{shape_ok, cut_of}
 use Rattle.slips.specs.Soonest.{trouble_of}
@@ -61,27 +60,30 @@ use Rattle.wrong_programs.specs.Wrong.{Trial, step, walk, read, write, check, ri
 -- answers as numbers
 
 abbrev walked_as : Walked → List ℕ
-walked_as (walked.Count n) = 0 ∷ n ∷ []
-walked_as (walked.Refused number place) = 1 ∷ number ∷ place ∷ []
+walked_as (answer.Count n) = 0 ∷ n ∷ []
+walked_as (Err r) = 1 ∷ r.number ∷ r.place ∷ []
 
 abbrev answer_as : Answer → List ℕ
-answer_as (answer.Object start size kind) = 0 ∷ start ∷ size ∷ kind ∷ []
+answer_as (Ok (Some o)) = 0 ∷ o.start ∷ o.size ∷ o.kind ∷ []
 answer_as answer.Done = 1 ∷ []
-answer_as (answer.Refused number place) = 2 ∷ number ∷ place ∷ []
+answer_as (Err r) = 2 ∷ r.number ∷ r.place ∷ []
 
 abbrev step_as : Step → List ℕ
 step_as s = s.next.at ∷ answer_as s.answer
 
 abbrev verdict_as : Verdict → List ℕ
-verdict_as (verdict.Accepted n) = 0 ∷ n ∷ []
-verdict_as (verdict.Refused number place) = 1 ∷ number ∷ place ∷ []
+verdict_as (Accepted n) = 0 ∷ n ∷ []
+verdict_as (Err r) = 1 ∷ r.number ∷ r.place ∷ []
+
+abbrev part_as : Part → ℕ
+part_as part.First = 1
+part_as part.Second = 2
+part_as part.Both = 3
 
 abbrev ring_as : RingAnswer → List ℕ
-ring_as (rings.First start size kind) = 1 ∷ start ∷ size ∷ kind ∷ []
-ring_as (rings.Second start size kind) = 2 ∷ start ∷ size ∷ kind ∷ []
-ring_as (rings.Copied start size kind) = 3 ∷ start ∷ size ∷ kind ∷ []
+ring_as (Ok (Some f)) = part_as f.lies ∷ f.object.start ∷ f.object.size ∷ f.object.kind ∷ []
 ring_as rings.Done = 4 ∷ []
-ring_as (rings.Refused number place) = 5 ∷ number ∷ place ∷ []
+ring_as (Err r) = 5 ∷ r.number ∷ r.place ∷ []
 
 abbrev ringed_as : RingStep → List ℕ → List ℕ
 ringed_as s x = (s.next.at ∷ ring_as s.answer) ++ x

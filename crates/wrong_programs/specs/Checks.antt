@@ -1,13 +1,12 @@
 -- 01, "What a reader of the contracts must find" and "Slips of the pen": wrong checks, each a function of log and
 -- bundle as `slips::check` is.
-use Rattle.std.specs.Prelude.{ℕ, suc, cond, List, [], ◌∷◌, length, take, ltb, leb}
+use Rattle.std.specs.Prelude.{ℕ, suc, cond, Err, List, [], ◌∷◌, length, take, ltb, leb}
 use Rattle.headers.specs.Format.{extent}
-use Rattle.objects.specs.declared.Walked.{Walked}
+use Rattle.objects.specs.Answers.{Walked}
 use Rattle.objects.specs.Walk.{walk_of}
 use Rattle.objects.specs.Named.{Entry}
 use Rattle.objects.specs.Stepping.{objects_of}
-use Rattle.slips.specs.declared.pass.Verdict.{Verdict}
-use Rattle.slips.specs.declared.pass.Verdict.TheVariants.{Accepted, Refused}
+use Rattle.slips.specs.Verdicts.{Verdict, Accepted, Refused}
 use Rattle.slips.specs.Cut.{Cut, Slips, Fault, cut_of}
 use Rattle.slips.specs.Right.{entries_on}
 use Rattle.slips.specs.Trouble.{Trouble, None, Found}
@@ -80,7 +79,7 @@ trouble_first = check_by or_trouble trouble_of
 -- accepts with one object more than there is
 abbrev pub one_more : Verdict → Verdict
 one_more (Accepted n) = Accepted (suc n)
-one_more (Refused number place) = Refused number place
+one_more (Err r) = Err r
 
 abbrev pub counts_one_more : List ℕ → List ℕ → Verdict
 counts_one_more log bundle = one_more (check_of log bundle)

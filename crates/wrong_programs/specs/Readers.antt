@@ -1,16 +1,14 @@
 -- 01, "What a reader of the contracts must find" and "Slips of the pen": wrong readers, each a step as `Cursor::step`
 -- is, and its walk.
-use Rattle.std.specs.Prelude.{ℕ, zero, suc, ◌+◌, ◌*◌, ◌/◌, ◌%◌, Bool, cond, not, ◌&&◌, ◌||◌, List, [], ◌∷◌, ◌++◌, length, take, drop, eqb, leb}
+use Rattle.std.specs.Prelude.{ℕ, zero, suc, ◌+◌, ◌*◌, ◌/◌, ◌%◌, Bool, cond, not, ◌&&◌, ◌||◌, Some, Ok, Err, List, [], ◌∷◌, ◌++◌, length, take, drop, eqb, leb}
 use Rattle.fields.specs.Numbers.{part, num, all_zero}
 use Rattle.fields.specs.Rules.{shifted}
 use Rattle.fields.specs.Wrong.{wrong_byte}
 use Rattle.headers.specs.Format.{extent, size_at, kind_at, first_length, second_at, length_at, header_gaps, header_blank}
 use Rattle.headers.specs.Rows.{row_of, listed, allowed}
 use Rattle.objects.specs.declared.Step.{Step}
-use Rattle.objects.specs.declared.Answer.{Answer}
-use Rattle.objects.specs.declared.Answer.TheVariants.{Object, Done, Refused}
-use Rattle.objects.specs.declared.Walked.{Walked}
-use Rattle.objects.specs.declared.Walked.TheVariants as walked
+use Rattle.objects.specs.Answers.{Answer, Object, Done, Refused, Walked}
+use Rattle.objects.specs.Answers as walked
 use Rattle.objects.specs.Faults.{gaps_of}
 use Rattle.objects.specs.Table.{Row, row, table, first_of}
 use Rattle.objects.specs.Next.{cursor, fault_of, place_in}
@@ -31,9 +29,9 @@ step_by fault next s at = step_with place_in fault next s at
 
 -- the walk by a step, in at most `fuel` steps
 abbrev pub go_on : (ℕ → Walked) → ℕ → ℕ → Answer → Walked
-go_on on next n (Object start size kind) = on next
+go_on on next n (Ok (Some o)) = on next
 go_on on next n Done = walked.Count n
-go_on on next n (Refused number place) = walked.Refused number place
+go_on on next n (Err r) = Err r
 
 abbrev pub walk_from : (List ℕ → ℕ → Step) → ℕ → List ℕ → ℕ → ℕ → Walked
 walk_from step zero s at n = walked.Count n
@@ -138,7 +136,7 @@ first_headers = placed_at 8 (λ t. wrong_byte (shifted first_length (gaps_of (ki
 -- counts one object more than there is
 abbrev pub one_more : Walked → Walked
 one_more (walked.Count n) = walked.Count (suc n)
-one_more (walked.Refused number place) = walked.Refused number place
+one_more (Err r) = Err r
 
 abbrev pub counts_one_more : List ℕ → Walked
 counts_one_more s = one_more (walk_of s)

@@ -5,8 +5,7 @@ use Rattle.headers.specs.Format.{length_at, header_of, body_of}
 use Rattle.headers.specs.Types.{Kind, overload, lin_message, fd_message}
 use Rattle.objects.specs.Kinds.{Record, format_of}
 use Rattle.objects.specs.Items.{Item, padded}
-use Rattle.outcomes.specs.declared.Written.{Written}
-use Rattle.outcomes.specs.declared.Written.TheVariants.{Used}
+use Rattle.outcomes.specs.Answers.{Written, Used}
 use Rattle.outcomes.specs.Reads.{record_in}
 use Rattle.outcomes.specs.Writes.{buffer_of}
 

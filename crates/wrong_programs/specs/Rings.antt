@@ -1,5 +1,5 @@
 -- W-206: wrong steps over a ring, each with the scratch that it leaves, and a wrong view.
-use Rattle.std.specs.Prelude.{ℕ, zero, suc, ◌+◌, ◌-◌, true, cond, List, [], ◌∷◌, ◌++◌, length, drop, eqb, leb}
+use Rattle.std.specs.Prelude.{ℕ, zero, suc, ◌+◌, ◌-◌, true, cond, Ok, Err, List, [], ◌∷◌, ◌++◌, length, drop, eqb, leb}
 use Rattle.fields.specs.Numbers.{part, zeros}
 use Rattle.headers.specs.Format.{extent, size_at, kind_at}
 use Rattle.headers.specs.Types.{kinds}
@@ -7,8 +7,7 @@ use Rattle.segments.specs.Joined.{crosses}
 use Rattle.objects.specs.Kinds.{find}
 use Rattle.objects.specs.Table.{Row, row, object_of, head_rows, type_rows, table, first_of, place_of}
 use Rattle.objects.specs.Next.{cursor}
-use Rattle.ring.specs.declared.RingAnswer.{RingAnswer}
-use Rattle.ring.specs.declared.RingAnswer.TheVariants.{First, Second, Copied, Done, Refused}
+use Rattle.ring.specs.Answers.{RingAnswer, First, Second, Copied, Done, Refused}
 use Rattle.ring.specs.declared.RingStep.{RingStep}
 use Rattle.ring.specs.Ring.{fits, ring_table, placed, ring_at}
 use Rattle.ring.specs.Handed.{scratch_at}
@@ -49,11 +48,8 @@ seam_in_first = ring_by ring_table (λ cut at n kind. cond (eqb at cut) (First a
 
 -- places counted from the second segment's start
 abbrev pub in_second : ℕ → ℕ → RingAnswer → RingAnswer
-in_second cut at (First start size kind) = First start size kind
-in_second cut at (Second start size kind) = Second start size kind
-in_second cut at (Copied start size kind) = Copied start size kind
-in_second cut at Done = Done
-in_second cut at (Refused number place) = cond (leb cut at) (Refused number (place - cut)) (Refused number place)
+in_second cut at (Ok o) = Ok o
+in_second cut at (Err r) = cond (leb cut at) (Refused r.number (r.place - cut)) (Err r)
 
 abbrev pub own_places : Program
 own_places a b at x = (record { answer = in_second (length a) at (ring_at a b at (length x)).answer; next = (ring_at a b at (length x)).next }, scratch_at a b at x)

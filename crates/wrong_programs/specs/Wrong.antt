@@ -7,7 +7,7 @@ use Rattle.fields.specs.Numbers.{zeros}
 use Rattle.lin.specs.declared.tail.Tail.{Tail}
 use Rattle.lin.specs.declared.tail.Tail.TheVariants.{Nothing, Response, Rates}
 use Rattle.objects.specs.declared.Step.{Step}
-use Rattle.objects.specs.declared.Walked.{Walked}
+use Rattle.objects.specs.Answers.{Walked}
 use Rattle.headers.specs.declared.header.Origin.TheVariants.{First}
 use Rattle.headers.specs.Types.{Kind, overload, lin_message, fd_message, number_of}
 use Rattle.objects.specs.Kinds.{Record}
@@ -16,12 +16,12 @@ use Rattle.objects.specs.Next.{next_at}
 use Rattle.objects.specs.Walk.{walk_of}
 use Rattle.ring.specs.Ring.{ring_at}
 use Rattle.ring.specs.Handed.{scratch_at, ring_view_at}
-use Rattle.outcomes.specs.declared.Written.{Written}
+use Rattle.outcomes.specs.Answers.{Written}
 use Rattle.outcomes.specs.Reads.{look_at, record_at, Reads}
 use Rattle.outcomes.specs.Writes.{Outcome}
 use Rattle.tray.specs.declared.Common.{Common}
 use Rattle.tray.specs.Tray.{Trays}
-use Rattle.slips.specs.declared.pass.Verdict.{Verdict}
+use Rattle.slips.specs.Verdicts.{Verdict}
 use Rattle.slips.specs.Check.{check_of}
 use Rattle.marked_examples.specs.Marked.{m2, m9, m11}
 use Rattle.wrong_programs.specs.Samples.{seventeen, nineteen, unclean, wrapping, lin168, second, fd, m12, other_size, other_type, stray_and_twice, padded_size}
