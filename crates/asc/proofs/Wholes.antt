@@ -1,48 +1,100 @@
 -- Whether bytes are an object, its unit aside, as the code tests it. Assumes nothing.
 use mathlib.Core.Path.{◌≡◌, refl, sym, ap, ◌∙◌, subst}
-use mathlib.Core.Bool.{Bool, true, false, cond}
+use mathlib.Core.Bool.{Bool, true, false, cond, false≢true}
+use mathlib.Core.Logic.{◌⊎◌, inl, inr, ⊎_elim}
 use mathlib.Core.List.{List}
 use Prim.Native.Nat.{ℕ, ◌≤◌, ◌<◌}
-use borrow.Author.Tests.{le-leb, lt-leb, eqb-true, eq-eqb, ne_eqb}
+use borrow.Author.Tests.{le-leb, lt-leb, eq-eqb, ne_eqb}
 use lib.ListN.{length}
 use lib.Dec.{eqb}
+use Rattle.std.specs.Prelude.{Option, Some, None, Result, Ok, Err}
+use Rattle.std.specs.Result.{is_ok}
+use Rattle.headers.specs.declared.refusal.Fault.{Fault}
+use Rattle.headers.specs.Faults.{tested}
+use Rattle.headers.proofs.Numbers.{some_number}
+use Rattle.headers.specs.declared.kind.Kind.{Kind}
+use Rattle.headers.specs.declared.kind.Kind.TheVariants as code
+use Rattle.headers.specs.Named.{kind_of, type_number, Names}
 use Rattle.headers.specs.Format.{head_size, size_at, kind_at, length_at, body_of, header_blank}
 use Rattle.headers.specs.Rows.{row_of, listed}
 use Rattle.headers.specs.Layout.{Sized}
 use Rattle.headers.specs.HeadTests.{first, head_fault}
 use Rattle.headers.specs.ObjectTests.{blank_fault}
 use Rattle.headers.specs.Form.{body_fault}
+use Rattle.headers.specs.Types as list
 use Rattle.headers.specs.Types.{number_of, can_message, overload, statistic}
 use Rattle.objects.specs.Kinds.{format_of}
 use Rattle.objects.specs.Faults.{body_fault_of, inner_fault_of}
 use Rattle.objects.proofs.KindLaws.{arm, arm_free, listed_inner}
 use Rattle.headers.proofs.Heads.{passes}
+use Rattle.headers.proofs.BodyTests.{gap_fault, rule_fault}
 use Rattle.headers.proofs.Bodies.{object_held, sized_least}
 use Rattle.headers.proofs.TypeKinds.{known}
 use Rattle.can.specs.declared.message.Message.{Message}
 use Rattle.can.specs.declared.overload.Overload.{Overload}
 use Rattle.can.specs.declared.statistic.Statistic.{Statistic}
 use Rattle.outcomes.specs.Reads.{record_in}
-use Rattle.asc.specs.Objects.{whole, event_as, event_in}
+use Rattle.asc.specs.Objects.{whole, event_as, event_in, found}
 use Rattle.asc.specs.Tells.{message}
 use Rattle.asc.specs.Tells as event
 use Rattle.asc.specs.Writes.{Found, one, none}
 
--- other types have no line
-pub no_line : (o : List ℕ) (n : ℕ) → eqb n (number_of can_message) ≡ false → eqb n (number_of overload) ≡ false → eqb n (number_of statistic) ≡ false → event_as n o ≡ none
-unfolding event_as
-no_line o n a b c = rw (a, b, c)
+-- a test by whether it let through
+module _ {A : Type 0} where
+  pub let_through : (r : Result A Fault) → is_ok r ≡ true → tested r ≡ 0
+  let_through (Ok a) e = refl
+  let_through (Err f) e = absurd (false≢true e)
 
-none_in : (o : List ℕ) → event_as (kind_at o) o ≡ none → event_in o ≡ none
+  pub held_back : (r : Result A Fault) → is_ok r ≡ false → tested r ≡ 0 → ⊥
+  held_back (Ok a) e z = false≢true (sym e)
+  held_back (Err f) e z = some_number f z
+
+-- the three types that have a line, and the others
+events : (k : Kind) → (k ≡ code.CanMessage) ⊎ ((k ≡ code.CanOverload) ⊎ ((k ≡ code.CanStatistic) ⊎ ((o : List ℕ) → none ≡ event_as (type_number k) o)))
+unfolding event_as
+events code.CanMessage = inl refl
+events code.CanOverload = inr (inl refl)
+events code.CanStatistic = inr (inr (inl refl))
+events code.FlexRayReceive = inr (inr (inr (λ o. refl)))
+events code.LinMessage = inr (inr (inr (λ o. refl)))
+events code.LinWakeUp = inr (inr (inr (λ o. refl)))
+events code.CanMessageTwo = inr (inr (inr (λ o. refl)))
+events code.CanFdMessage = inr (inr (inr (λ o. refl)))
+events code.EthernetStatus = inr (inr (inr (λ o. refl)))
+events code.EthernetFrame = inr (inr (inr (λ o. refl)))
+events code.ForwardedFrame = inr (inr (inr (λ o. refl)))
+events code.EthernetError = inr (inr (inr (λ o. refl)))
+events code.ForwardedError = inr (inr (inr (λ o. refl)))
+
+pub no_event : (k : Kind) (o : List ℕ) → (k ≡ code.CanMessage → ⊥) → (k ≡ code.CanOverload → ⊥) → (k ≡ code.CanStatistic → ⊥) → none ≡ event_as (type_number k) o
+no_event k o a b c = ⊎_elim (λ e. absurd (a e)) (⊎_elim (λ e. absurd (b e)) (⊎_elim (λ e. absurd (c e)) (λ f. f o))) (events k)
+
+-- a foreign type has none
+unlisted : (n : ℕ) → listed (row_of n) ≡ false → (k : list.Kind) → eqb n (number_of k) ≡ false
+unlisted n l k = ne_eqb n (number_of k) (λ e. false≢true (sym l ∙ ap (λ (n : ℕ). listed (row_of n)) e ∙ known k))
+
+foreign_event : (n : ℕ) (o : List ℕ) → listed (row_of n) ≡ false → none ≡ event_as n o
+unfolding event_as
+foreign_event n o l = rw (unlisted n l can_message, unlisted n l overload, unlisted n l statistic)
+
+-- the event by the type that a number names
+pub found_named : (k : Option Kind) (n : ℕ) (o : List ℕ) → Names k n → found k o ≡ event_as n o
+found_named (Some k) n o e = ap (λ (n : ℕ). event_as n o) (sym e)
+found_named None n o l = foreign_event n o l
+
+none_in : (o : List ℕ) → none ≡ event_as (kind_at o) o → none ≡ event_in o
 unfolding event_in
-none_in o e = ap (λ (f : Found). cond (whole o) f none) e ∙ either (whole o)
+none_in o e = either (whole o) ∙ ap (λ (f : Found). cond (whole o) f none) e
   where
-    either : (b : Bool) → cond b none none ≡ none
+    either : (b : Bool) → none ≡ cond b none none
     either true = refl
     either false = refl
 
 -- bytes of which no line comes
 module _ (o : List ℕ) where
+  pub foreign_none : listed (row_of (kind_at o)) ≡ false → none ≡ event_in o
+  foreign_none l = none_in o (foreign_event (kind_at o) o l)
+
   pub too_short : length o < head_size → none ≡ event_in o
   unfolding event_in whole
   too_short h = rw (lt-leb head_size (length o) h)
@@ -61,69 +113,74 @@ pub record Headed (o : List ℕ) : Type 0 where
   pub head : head_fault o ≡ 0
   pub size : size_at o ≡ length o
 
+pub headed : {A : Type 0} {o : List ℕ} {n : ℕ} (r : Result A Fault) → head_size ≤ length o → tested r ≡ head_fault o → is_ok r ≡ true → n ≡ size_at o → n ≡ length o → Headed o
+headed r l f t e q = record { long = l; head = sym f ∙ let_through r t; size = sym e ∙ q }
+
 module _ (o : List ℕ) (p : Headed o) where
   -- 8 and 9 decide
   inner_decides : {b : Bool} → eqb (inner_fault_of (kind_at o) o) 0 ≡ b → cond b (event_as (kind_at o) o) none ≡ event_in o
   unfolding event_in whole
   inner_decides e = rw (le-leb head_size (length o) p.long, eq-eqb (head_fault o) 0 p.head, eq-eqb (size_at o) (length o) p.size, e)
 
-  module _ (l : listed (row_of (kind_at o)) ≡ true) where
-    -- a listed object's header is there
-    pub header_there : length_at o ≤ length o
-    header_there = (object_held o p.head p.size l).0
+  -- of a listed type
+  module _ (k : Kind) (e : kind_at o ≡ type_number k) where
+    here : listed (row_of (kind_at o)) ≡ true
+    here = ap (λ (n : ℕ). listed (row_of n)) e ∙ known (kind_of k)
 
-    -- the header's own reserved byte
+    -- the header is there
+    pub header_there : length_at o ≤ length o
+    header_there = (object_held o p.head p.size here).0
+
+    -- its own reserved byte
     pub header_unclean : header_blank o ≡ false → none ≡ event_in o
     unfolding blank_fault first
     header_unclean z =
-        let e : 8 ≡ inner_fault_of (kind_at o) o = (let f : 8 ≡ blank_fault o (body_fault_of (kind_at o) (body_of o)) = rw z in f) ∙ listed_inner (kind_at o) o l in
-        inner_decides (ap (λ (n : ℕ). eqb n 0) (sym e))
+        let f : 8 ≡ inner_fault_of (kind_at o) o = (let f : 8 ≡ blank_fault o (body_fault_of (kind_at o) (body_of o)) = rw z in f) ∙ listed_inner (kind_at o) o here in
+        inner_decides (ap (λ (n : ℕ). eqb n 0) (sym f))
 
     body_decides : {x : ℕ} → header_blank o ≡ true → x ≡ body_fault_of (kind_at o) (body_of o) → cond (eqb x 0) (event_as (kind_at o) o) none ≡ event_in o
     unfolding blank_fault
     body_decides {x} clean e =
-        let f : inner_fault_of (kind_at o) o ≡ x = sym (listed_inner (kind_at o) o l) ∙ passes 8 _ clean ∙ sym e in
+        let f : inner_fault_of (kind_at o) o ≡ x = sym (listed_inner (kind_at o) o here) ∙ passes 8 _ clean ∙ sym e in
         inner_decides (ap (λ (n : ℕ). eqb n 0) f)
 
-  -- an overload's body is there, and its test decides
-  module _ (k : kind_at o ≡ number_of overload) where
-    overload_listed : listed (row_of (kind_at o)) ≡ true
-    overload_listed = ap (λ (n : ℕ). listed (row_of n)) k ∙ known overload
+    -- an overload's body is there, and its test decides
+    module _ (q : k ≡ code.CanOverload) where
+      overload_at : kind_at o ≡ number_of overload
+      overload_at = e ∙ ap type_number q
 
-    pub overload_held : (length_at o ≤ length o) × (4 ≤ length (body_of o))
-    overload_held =
-        let w = object_held o p.head p.size overload_listed in
-        (w.0, sized_least overload (body_of o) (subst (λ (n : ℕ). Sized n (body_of o)) k w.1))
+      pub overload_held : 4 ≤ length (body_of o)
+      overload_held =
+          let w = object_held o p.head p.size here in
+          sized_least overload (body_of o) (subst (λ (n : ℕ). Sized n (body_of o)) overload_at w.1)
 
-    module _ (clean : listed (row_of (kind_at o)) ≡ true → header_blank o ≡ true) {x : ℕ} (e : x ≡ body_fault (format_of overload) (body_of o)) where
-      pub overload_bad : (x ≡ 0 → ⊥) → none ≡ event_in o
-      overload_bad h = let d = body_decides overload_listed (clean overload_listed) (arm overload (body_of o) k e) in rw (ne_eqb x 0 h) at d
+      module _ (clean : header_blank o ≡ true) {x : ℕ} (f : x ≡ body_fault (format_of overload) (body_of o)) where
+        pub overload_bad : (x ≡ 0 → ⊥) → none ≡ event_in o
+        overload_bad h = let d = body_decides clean (arm overload (body_of o) overload_at f) in rw (ne_eqb x 0 h) at d
 
-      pub overload_good : x ≡ 0 → event_as (kind_at o) o ≡ event_in o
-      overload_good h = let d = body_decides overload_listed (clean overload_listed) (arm overload (body_of o) k e) in rw h at d
+        pub overload_good : x ≡ 0 → event_as (type_number k) o ≡ event_in o
+        overload_good h = let d = body_decides clean (arm overload (body_of o) overload_at f) in rw (h, e) at d
 
-  -- the message and the statistic have no reserved byte and no rule in their bodies; and other types no line
-  pub other_body : (listed (row_of (kind_at o)) ≡ true → header_blank o ≡ true) → (kind_at o ≡ number_of overload → ⊥) → event_as (kind_at o) o ≡ event_in o
-  other_body clean h = cases (eqb (kind_at o) (number_of can_message)) (eqb (kind_at o) (number_of statistic)) refl refl
-    where
-      free : (l : listed (row_of (kind_at o)) ≡ true) → 0 ≡ body_fault_of (kind_at o) (body_of o) → event_as (kind_at o) o ≡ event_in o
-      free l e = body_decides l (clean l) e
+    -- the message and the statistic have no reserved byte and no rule in their bodies; and other types no line
+    pub other_body : header_blank o ≡ true → (k ≡ code.CanOverload → ⊥) → event_as (type_number k) o ≡ event_in o
+    other_body clean h = ap (λ (n : ℕ). event_as n o) (sym e) ∙ ⊎_elim (λ q. free can_message (ap type_number q) refl) (⊎_elim (λ q. absurd (h q)) (⊎_elim (λ q. free statistic (ap type_number q) refl) nothing)) (events k)
+      where
+        free : (j : list.Kind) → type_number k ≡ number_of j → gap_fault (format_of j).gaps (body_of o) (rule_fault ((format_of j).rules (body_of o))) ≡ 0 → event_as (kind_at o) o ≡ event_in o
+        free j q z = body_decides clean (arm_free j (body_of o) (e ∙ q) z)
 
-      cases : (a b : Bool) → eqb (kind_at o) (number_of can_message) ≡ a → eqb (kind_at o) (number_of statistic) ≡ b → event_as (kind_at o) o ≡ event_in o
-      cases true b q r = let k = eqb-true _ _ q in free (ap (λ (n : ℕ). listed (row_of n)) k ∙ known can_message) (arm_free can_message (body_of o) k refl)
-      cases false true q r = let k = eqb-true _ _ r in free (ap (λ (n : ℕ). listed (row_of n)) k ∙ known statistic) (arm_free statistic (body_of o) k refl)
-      cases false false q r = no_line o (kind_at o) q (ne_eqb (kind_at o) (number_of overload) h) r ∙ sym (none_in o (no_line o (kind_at o) q (ne_eqb (kind_at o) (number_of overload) h) r))
+        nothing : ((o : List ℕ) → none ≡ event_as (type_number k) o) → event_as (kind_at o) o ≡ event_in o
+        nothing f = let n : none ≡ event_as (kind_at o) o = f o ∙ ap (λ (n : ℕ). event_as n o) (sym e) in sym n ∙ none_in o n
 
--- an event by its type
-module _ (o : List ℕ) {n : ℕ} where
-  pub as_message : n ≡ number_of can_message → {r : Message} → r ≡ record_in can_message o → one (message r) ≡ event_as n o
+-- an event by its type's name
+module _ (o : List ℕ) {k : Option Kind} where
+  pub as_message : k ≡ Some code.CanMessage → {r : Message} → r ≡ record_in can_message o → one (message r) ≡ found k o
   unfolding event_as
-  as_message e q = rw (eq-eqb n (number_of can_message) e) (ap (λ (x : Message). one (message x)) q)
+  as_message e q = rw e (ap (λ (x : Message). one (message x)) q)
 
-  pub as_overload : n ≡ number_of overload → {r : Overload} → r ≡ record_in overload o → one (event.overload r) ≡ event_as n o
+  pub as_overload : k ≡ Some code.CanOverload → {r : Overload} → r ≡ record_in overload o → one (event.overload r) ≡ found k o
   unfolding event_as
   as_overload e q = rw e (ap (λ (x : Overload). one (event.overload x)) q)
 
-  pub as_statistic : n ≡ number_of statistic → {r : Statistic} → r ≡ record_in statistic o → one (event.statistic r) ≡ event_as n o
+  pub as_statistic : k ≡ Some code.CanStatistic → {r : Statistic} → r ≡ record_in statistic o → one (event.statistic r) ≡ found k o
   unfolding event_as
   as_statistic e q = rw e (ap (λ (x : Statistic). one (event.statistic x)) q)

@@ -3,6 +3,8 @@
 use Rattle.std.specs.Prelude.{ℕ, Bool, cond, ◌&&◌, Option, Some, None, Ok, Err, List, length, eqb, leb}
 use Rattle.headers.specs.Format.{head_size, size_at, kind_at}
 use Rattle.headers.specs.HeadTests.{head_fault}
+use Rattle.headers.specs.declared.kind.Kind.{Kind}
+use Rattle.headers.specs.Named.{type_number}
 use Rattle.headers.specs.Types.{number_of}
 use Rattle.headers.specs.Types as kind
 use Rattle.objects.specs.declared.Cursor.{Cursor}
@@ -37,8 +39,8 @@ unfoldable pub event_in : List ℕ → Found
 event_in o = cond (whole o) (event_as (kind_at o) o) none
 
 -- the same by the type that a test has found
-abbrev pub found : Option ℕ → List ℕ → Found
-found (Some n) o = event_as n o
+abbrev pub found : Option Kind → List ℕ → Found
+found (Some k) o = event_as (type_number k) o
 found None o = none
 
 -- at a place of a log: the step's own done and refusal; else what the object's line gives, and behind a refusal the

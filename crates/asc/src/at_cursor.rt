@@ -3,6 +3,7 @@ ghost use Rattle.std.specs.Prelude.{◌≡◌};
 ghost use Rattle.asc.specs.Objects.{line_step, line_into};
 
 use crate::object::line_as;
+use headers::Kind;
 use objects::{Cursor, Refusal};
 
 // The answer with the next cursor, which after done and a refusal is the one before.
@@ -20,7 +21,7 @@ pub fn line_at(log: &[u8], c: Cursor, out: &mut [u8]) -> LineStep
 {
     let step = c.step(log);
     match step.answer {
-        Ok(Some(o)) => match line_as(o.kind, &log[o.start..o.start + o.size], out) {
+        Ok(Some(o)) => match line_as(Kind::of(o.kind), &log[o.start..o.start + o.size], out) {
             Ok(n) => LineStep {
                 answer: Ok(Some(n)),
                 next: step.next,

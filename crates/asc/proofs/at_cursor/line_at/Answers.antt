@@ -6,6 +6,8 @@ use Rattle.std.specs.Prelude.{None, Some, Ok}
 use Rattle.objects.specs.declared.Step.{Step}
 use Rattle.objects.proofs.Walks.{object_within}
 use Rattle.asc.specs.Objects.{lined}
+use Rattle.asc.proofs.Writings.{outcome_by}
+use Rattle.asc.proofs.Wholes.{found_named}
 use Rattle.asc.proofs.LineSteps.{step_done, step_refused, at_part}
 use Rattle.asc.proofs.at_cursor.line_at.Goals as goal
 
@@ -22,12 +24,12 @@ slice_bounds-line_as-end c =
 pub returns-in-Ok : goal.returns-in-Ok
 returns-in-Ok c =
     let e : c.step-step.result.answer ≡ Ok (Some c.in-Ok-Some.o) = search rules in
-    at_part _ _ _ c.step-step.ensures e c.line_as.ensures (ap (lined c.args.c.at c.step-step.result.next) (sym c.in-Ok.is))
+    at_part _ _ _ c.step-step.ensures e (outcome_by (found_named _ _ _ c.of.ensures) c.line_as.ensures) (ap (lined c.args.c.at c.step-step.result.next) (sym c.in-Ok.is))
 
 pub returns-in-Err-line_as : goal.returns-in-Err-line_as
 returns-in-Err-line_as c =
     let e : c.step-step.result.answer ≡ Ok (Some c.in-Ok-Some.o) = search rules in
-    at_part _ _ _ c.step-step.ensures e c.line_as.ensures (ap (lined c.args.c.at c.step-step.result.next) (sym c.in-Err-line_as.is))
+    at_part _ _ _ c.step-step.ensures e (outcome_by (found_named _ _ _ c.of.ensures) c.line_as.ensures) (ap (lined c.args.c.at c.step-step.result.next) (sym c.in-Err-line_as.is))
 
 pub returns-in-Ok-None : goal.returns-in-Ok-None
 returns-in-Ok-None c =
