@@ -1,17 +1,38 @@
 // What a frame and an error have in common: the whole body, but for the meaning of the four bytes at 28.
-ghost use Rattle.std.specs.Prelude.{◌≡◌, ◌+◌, ◌-◌, ◌≤◌, length, eqb};
+ghost use Rattle.std.specs.Prelude.{◌≡◌, ℕ, ◌+◌, ◌-◌, ◌≤◌, List, length, eqb};
 ghost use Rattle.fields.specs.Numbers.{num};
 ghost use Rattle.fields.specs.Rules.{each_right};
 ghost use Rattle.fields.specs.Written.{Wrote};
 ghost use Rattle.fields.specs.Slots.{number, bytes_of};
 ghost use Rattle.fields.specs.Wrong.{wrong_field};
+ghost use Rattle.headers.specs.declared.header.Header.{Header};
 ghost use Rattle.headers.specs.Faults.{tested};
 ghost use Rattle.headers.specs.HeadTests.{first};
 ghost use Rattle.ethernet.specs.Fields.{structure_length, longest_frame, length_rules};
 ghost use Rattle.ethernet.specs.Tables.{origin_slots, transmission_slots, event_slots};
 
 use crate::frame::Frame;
-use headers::{Fault, Record};
+use headers::{Fault, Header, Record};
+
+// A record beside which its frame's bytes stand: where it is written, they are lent.
+pub trait Lent: Record {
+    ghost header: { Self → Header };
+
+    // The bytes of its body, the frame's among them.
+    ghost body: { Self → List ℕ → List ℕ };
+
+    fn header(self) -> Header
+        ensures { result ≡ header self };
+
+    // The length of its body.
+    fn length(self, lent: &[u8]) -> usize
+        ensures { result ≡ length (body self lent.now) };
+
+    // Its body, written at a place.
+    fn put(self, out: &mut [u8], at: usize, lent: &[u8])
+        requires { (at + length (body self lent.now) ≤ length out.old) × (length lent.now ≤ longest_frame) }
+        ensures { Wrote at (body self lent.now) out.old out.new };
+}
 
 // Whether the structure length in a body is right.
 fn structure_right(b: &[u8]) -> bool

@@ -1,13 +1,12 @@
 // The Ethernet frame, type 120, and the forwarded frame, type 121.
-#![tactic(auto, unfolding(crate::specs::Fields::frame_of, headers::specs::HeadTests::first))]
+#![tactic(auto, using(crate::proofs::Laws::frame_length), unfolding(crate::specs::Fields::frame_of, headers::specs::HeadTests::first))]
 
-ghost use Rattle.std.specs.Prelude.{refl, ◌≡◌, ◌+◌, ◌≤◌, length, drop};
-ghost use Rattle.fields.specs.Written.{Wrote};
+ghost use Rattle.std.specs.Prelude.{refl, ◌≡◌, ◌≤◌, length, drop};
 ghost use Rattle.fields.specs.Slots.{bytes_of};
-ghost use Rattle.ethernet.specs.Fields.{structure_length, longest_frame, frame_of, frame_format};
+ghost use Rattle.ethernet.specs.Fields.{structure_length, frame_of, frame_format};
 ghost use Rattle.ethernet.specs.Tables.{frame_slots};
 
-use crate::event::{length_fault, put_event, wrong_length};
+use crate::event::{Lent, length_fault, put_event, wrong_length};
 use headers::{Fault, Header, Record};
 
 // Structure length and frame length are not kept: they follow from the frame's bytes, which are lent beside the record.
@@ -66,18 +65,33 @@ impl Record for Frame {
     }
 }
 
+impl Lent for Frame {
+    ghost header = { λ r. r.header };
+
+    ghost body = { λ r b. bytes_of frame_slots (record { value = r; bytes = b }) };
+
+    fn header(self) -> Header {
+        self.header
+    }
+
+    fn length(self, lent: &[u8]) -> usize {
+        Self::LENGTH + lent.len()
+    }
+
+    fn put(self, out: &mut [u8], at: usize, lent: &[u8]) {
+        put_event(out, at, self, 0, lent);
+    }
+}
+
+impl Frame {
+    // The most bytes that a frame has.
+    pub const LONGEST: usize = 1612;
+}
+
 // The frame's bytes, a part of the body of a frame or an error.
 pub fn frame_view(b: &[u8]) -> &[u8]
     requires { structure_length ≤ length b.now }
     ensures { result.now ≡ drop structure_length b.now }
 {
     &b[Frame::LENGTH..]
-}
-
-// The body of a frame, written at a place: its record, and the frame's bytes, which are lent.
-pub fn put_frame(out: &mut [u8], at: usize, r: Frame, lent: &[u8])
-    requires { (at + structure_length + length lent.now ≤ length out.old) × (length lent.now ≤ longest_frame) }
-    ensures { Wrote at (bytes_of frame_slots (record { value = r; bytes = lent.now })) out.old out.new }
-{
-    put_event(out, at, r, 0, lent);
 }

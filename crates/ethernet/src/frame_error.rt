@@ -1,13 +1,12 @@
 // The Ethernet error, type 122, and the forwarded error, type 123: a frame that went wrong.
-#![tactic(auto, unfolding(crate::specs::Fields::error_of, headers::specs::HeadTests::first))]
+#![tactic(auto, using(crate::proofs::Laws::error_length), unfolding(crate::specs::Fields::error_of, headers::specs::HeadTests::first))]
 
-ghost use Rattle.std.specs.Prelude.{refl, ◌+◌, ◌≤◌, length};
-ghost use Rattle.fields.specs.Written.{Wrote};
+ghost use Rattle.std.specs.Prelude.{refl};
 ghost use Rattle.fields.specs.Slots.{bytes_of};
-ghost use Rattle.ethernet.specs.Fields.{structure_length, longest_frame, error_of, error_format};
+ghost use Rattle.ethernet.specs.Fields.{structure_length, error_of, error_format};
 ghost use Rattle.ethernet.specs.Tables.{error_slots};
 
-use crate::event::{length_fault, put_event, wrong_length};
+use crate::event::{Lent, length_fault, put_event, wrong_length};
 use crate::frame::Frame;
 use headers::{Fault, Header, Record};
 
@@ -51,10 +50,20 @@ impl Record for FrameError {
     }
 }
 
-// The body of an error, written at a place: its record, and the frame's bytes, which are lent.
-pub fn put_error(out: &mut [u8], at: usize, e: FrameError, lent: &[u8])
-    requires { (at + structure_length + length lent.now ≤ length out.old) × (length lent.now ≤ longest_frame) }
-    ensures { Wrote at (bytes_of error_slots (record { value = e; bytes = lent.now })) out.old out.new }
-{
-    put_event(out, at, e.frame, e.code, lent);
+impl Lent for FrameError {
+    ghost header = { λ e. e.frame.header };
+
+    ghost body = { λ e b. bytes_of error_slots (record { value = e; bytes = b }) };
+
+    fn header(self) -> Header {
+        self.frame.header
+    }
+
+    fn length(self, lent: &[u8]) -> usize {
+        Self::LENGTH + lent.len()
+    }
+
+    fn put(self, out: &mut [u8], at: usize, lent: &[u8]) {
+        put_event(out, at, self.frame, self.code, lent);
+    }
 }

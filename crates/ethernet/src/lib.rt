@@ -7,6 +7,7 @@ mod frame;
 mod frame_error;
 mod status;
 
-pub use frame::{Frame, frame_view, put_frame};
-pub use frame_error::{FrameError, put_error};
+pub use event::Lent;
+pub use frame::{Frame, frame_view};
+pub use frame_error::FrameError;
 pub use status::Status;

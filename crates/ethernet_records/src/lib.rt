@@ -3,6 +3,7 @@
 
 mod frame;
 mod frame_error;
+mod lent;
 mod status;
 
 pub use frame::{

@@ -1,8 +1,8 @@
 -- `can_records::write_message` meets its contract: what its type writes, and is not refused, is valid. Assumes nothing.
 use Rattle.headers.specs.Types.{can_message}
 use Rattle.can.proofs.KnownLaws.{message_known}
-use Rattle.outcomes.proofs.Writing.{record_written_by}
+use Rattle.outcomes.proofs.Writing.{written_by}
 use Rattle.can_records.proofs.message.write_message.Goals as goal
 
 pub returns : goal.returns
-returns c = record_written_by can_message c.args.r (λ u _. message_known c.args.r c.well_formed.0 u) c.write_record.ensures
+returns c = written_by can_message c.args.r (λ u _. message_known c.args.r c.well_formed.0 u) c.write_record.ensures

@@ -1,10 +1,11 @@
--- `ethernet_records::write_forwarded_frame` meets its contract: it is `write_as` for its number. Assumes nothing.
-use mathlib.Core.Path.{refl}
-use mathlib.Core.Logic.{inr}
+-- `ethernet_records::write_forwarded_frame` meets its contract: what its type writes, and is not refused, is valid. Assumes nothing.
+use Rattle.headers.specs.Types.{forwarded_frame}
+use Rattle.ethernet.proofs.KnownLaws.{frame_known}
+use Rattle.outcomes.proofs.Writing.{written_by}
+use Rattle.ethernet_records.specs.Framed.{framed}
 use Rattle.ethernet_records.proofs.frame.write_forwarded_frame.Goals as goal
 
-pub write_as-requires : goal.write_as-requires
-write_as-requires c = inr refl
-
 pub returns : goal.returns
-returns c = c.write_as.ensures.1 refl
+returns c =
+    let a = c.args in
+    written_by forwarded_frame (framed a.r a.lent.now) (λ u e. frame_known a.r c.well_formed.0 u a.lent.now e) c.write_as.ensures

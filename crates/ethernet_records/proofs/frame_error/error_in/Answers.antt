@@ -1,12 +1,8 @@
--- `ethernet_records::error_in` meets its contract: the object's record, or the record of zeros. Assumes nothing.
+-- `ethernet_records::error_in` meets its contract: it is the object's record without its frame. Assumes nothing.
+use mathlib.Core.Path.{◌∙◌}
 use Rattle.headers.specs.Types.{ethernet_error}
-use Rattle.outcomes.proofs.Reading.{in_long, in_short}
-use mathlib.Core.Bool.{not}
-use mathlib.Core.Path.{ap}
+use Rattle.outcomes.proofs.Reading.{record_pick}
 use Rattle.ethernet_records.proofs.frame_error.error_in.Goals as goal
 
-pub returns-then-not-holds : goal.returns-then-not-holds
-returns-then-not-holds c = in_short ethernet_error _ (λ f. f.value) c.holds.ensures (ap not c.if-not-holds.true) c.no_header.ensures c.get_error.ensures
-
 pub returns : goal.returns
-returns c = in_long ethernet_error _ (λ f. f.value) c.holds.ensures (ap not c.if-not-holds.false) c.get_header.ensures c.body.ensures c.get_error-2.ensures
+returns c = c.record_in.ensures ∙ record_pick ethernet_error (λ f. f.value) _
