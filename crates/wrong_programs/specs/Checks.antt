@@ -4,7 +4,7 @@ use Rattle.std.specs.Prelude.{ℕ, suc, cond, Err, List, [], ◌∷◌, length, 
 use Rattle.headers.specs.Format.{extent}
 use Rattle.objects.specs.Answers.{Walked}
 use Rattle.objects.specs.Walk.{walk_of}
-use Rattle.objects.specs.Named.{Entry}
+use Rattle.objects.specs.declared.Entry.{Entry}
 use Rattle.objects.specs.Stepping.{objects_of}
 use Rattle.slips.specs.Verdicts.{Verdict, Accepted, Refused}
 use Rattle.slips.specs.Cut.{Cut, Slips, Fault, cut_of}
