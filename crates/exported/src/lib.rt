@@ -16,16 +16,16 @@ ghost use Rattle.slips.specs.Check.{check_of};
 ghost use Rattle.slips.specs.Replies.{check_reply};
 ghost use Rattle.exported.specs.Replies.{reply, lent, told_of, step_reply};
 
+use headers::{Fault, Refusal};
 pub use line::{mshelovat_line, mshelovat_line_at, mshelovat_read_line};
 pub use list::mshelovat_list;
-use objects::{Answer, Cursor, Walked};
+use objects::Cursor;
 pub use record::{mshelovat_read, mshelovat_write};
 pub use rings::mshelovat_ring_step;
-use slips::Verdict;
 pub use trays::{mshelovat_tray_first, mshelovat_tray_second};
 
 // The lent slice has no room for the answer's values.
-const ROOM: u32 = 10;
+const ROOM: u32 = Fault::Room as u32;
 
 // The position is exactly the log's end.
 const DONE: u32 = 100;
@@ -41,15 +41,22 @@ fn tell<const N: usize>(out: &mut [u64], number: u32, values: [u64; N]) -> u32
     number
 }
 
+// Answers 0 and how many objects or bytes there are, or the refusal and its place.
+fn tell_count(out: &mut [u64], count: Result<usize, Refusal>) -> u32
+    ensures { reply result out.new ≡ lent (told_of (walk_reply count)) out.old }
+{
+    match count {
+        Ok(n) => tell(out, 0, [n as u64]),
+        Err(refusal) => tell(out, refusal.number(), [refusal.place() as u64]),
+    }
+}
+
 // The whole log: 0 and the count of its objects, or the first refusal and its place.
 #[unsafe(no_mangle)]
 pub extern "C" fn mshelovat_walk(log: &[u8], out: &mut [u64]) -> u32
     ensures { reply result out.new ≡ lent (told_of (walk_reply (walk_of log.now))) out.old }
 {
-    match objects::walk(log) {
-        Walked::Count(n) => tell(out, 0, [n as u64]),
-        Walked::Refused { number, place } => tell(out, number, [place as u64]),
-    }
+    tell_count(out, objects::walk(log))
 }
 
 // The slips of the bundle beside the log: 0 and the count of objects, or the first refusal and its place.
@@ -57,10 +64,7 @@ pub extern "C" fn mshelovat_walk(log: &[u8], out: &mut [u64]) -> u32
 pub extern "C" fn mshelovat_check(log: &[u8], bundle: &[u8], out: &mut [u64]) -> u32
     ensures { reply result out.new ≡ lent (told_of (check_reply (check_of log.now bundle.now))) out.old }
 {
-    match slips::check(log, bundle) {
-        Verdict::Accepted(n) => tell(out, 0, [n as u64]),
-        Verdict::Refused { number, place } => tell(out, number, [place as u64]),
-    }
+    tell_count(out, slips::check(log, bundle))
 }
 
 // The object at a position: 0 with its start, size, type and the next position; 100 at the log's end; or the refusal
@@ -72,10 +76,8 @@ pub extern "C" fn mshelovat_step(log: &[u8], at: usize, out: &mut [u64]) -> u32
     let step = Cursor { at }.step(log);
     let on = step.next.at as u64;
     match step.answer {
-        Answer::Object { start, size, kind } => {
-            tell(out, 0, [start as u64, size as u64, kind as u64, on])
-        }
-        Answer::Done => tell(out, DONE, [on, 0, 0, on]),
-        Answer::Refused { number, place } => tell(out, number, [place as u64, 0, 0, on]),
+        Ok(Some(o)) => tell(out, 0, [o.start as u64, o.size as u64, o.kind as u64, on]),
+        Ok(None) => tell(out, DONE, [on, 0, 0, on]),
+        Err(refusal) => tell(out, refusal.number(), [refusal.place() as u64, 0, 0, on]),
     }
 }

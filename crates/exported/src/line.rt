@@ -5,7 +5,7 @@ ghost use Rattle.asc.specs.Objects.{line_step, line_into};
 ghost use Rattle.exported.specs.Replies.{reply, lent, Filled};
 ghost use Rattle.exported.specs.Lines.{object_reply, object_into, place_reply, reading_reply};
 
-use crate::{DONE, ROOM, tell};
+use crate::{DONE, ROOM, tell, tell_count};
 use objects::Cursor;
 
 // Writes the line of an object's bytes to the front of `bytes`, by `asc::object_line`: 0 and how many bytes it has,
@@ -18,10 +18,7 @@ pub extern "C" fn mshelovat_line(object: &[u8], bytes: &mut [u8], out: &mut [u64
     if out.len() < 1 {
         return ROOM;
     }
-    match asc::object_line(object, bytes) {
-        Ok(n) => tell(out, 0, [n as u64]),
-        Err(refusal) => tell(out, refusal.number(), [refusal.place() as u64]),
-    }
+    tell_count(out, asc::object_line(object, bytes))
 }
 
 // Writes the line of the object at a position to the front of `bytes`: 0 with how many bytes it has, none for other

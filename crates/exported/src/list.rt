@@ -5,7 +5,7 @@ ghost use Rattle.exported.specs.Replies.{Filled};
 ghost use Rattle.exported.specs.Lists.{listed, list_of, list_reply};
 
 use crate::{DONE, ROOM, tell};
-use objects::{Answer, Cursor};
+use objects::{Cursor, Entry};
 
 // The number to be told, how many objects were listed, the position where the next call goes on, and the place of a
 // refusal, or 0.
@@ -18,11 +18,11 @@ struct Listed {
 }
 
 // Lists one object at a place of the slice.
-fn enter(entries: &mut [u64], i: usize, start: usize, size: usize, kind: u32)
+fn enter(entries: &mut [u64], i: usize, o: Entry)
     requires { i + 3 ≤ length entries.old }
-    ensures { entries.new ≡ sets entries.old i (start ∷ size ∷ kind ∷ []) }
+    ensures { entries.new ≡ sets entries.old i (o.start ∷ o.size ∷ o.kind ∷ []) }
 {
-    entries[i..i + 3].copy_from_slice(&[start as u64, size as u64, kind as u64]);
+    entries[i..i + 3].copy_from_slice(&[o.start as u64, o.size as u64, o.kind as u64]);
 }
 
 // Lists the objects from the cursor on, until there is no room, the log ends, or an object is refused.
@@ -33,26 +33,21 @@ fn list(log: &[u8], at: usize, entries: &mut [u64]) -> Listed
     let mut c = Cursor { at };
     for count in 0..room {
         let step = c.step(log);
-        match step.answer {
-            Answer::Object { start, size, kind } => enter(entries, 3 * count, start, size, kind),
-            Answer::Done => {
-                return Listed {
-                    number: DONE,
-                    count,
-                    at: c.at,
-                    place: 0,
-                };
+        let (number, place) = match step.answer {
+            Ok(Some(o)) => {
+                enter(entries, 3 * count, o);
+                c = step.next;
+                continue;
             }
-            Answer::Refused { number, place } => {
-                return Listed {
-                    number,
-                    count,
-                    at: c.at,
-                    place,
-                };
-            }
-        }
-        c = step.next;
+            Ok(None) => (DONE, 0),
+            Err(refusal) => (refusal.number(), refusal.place()),
+        };
+        return Listed {
+            number,
+            count,
+            at: c.at,
+            place,
+        };
     }
     Listed {
         number: 0,

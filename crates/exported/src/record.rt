@@ -3,9 +3,9 @@ ghost use Rattle.std.specs.Prelude.{◌≡◌};
 ghost use Rattle.exported.specs.Replies.{reply, lent, Filled};
 ghost use Rattle.exported.specs.Records.{look_reply, read_reply, read_into, write_reply, write_into};
 
-use crate::{DONE, ROOM, tell};
+use crate::{DONE, ROOM, tell, tell_count};
 use objects::Cursor;
-use outcomes::{Looked, ReadAnswer, Written};
+use outcomes::{Found, Looked};
 
 // An object of another type was let through.
 const OTHER: u32 = 101;
@@ -15,14 +15,13 @@ const OTHER: u32 = 101;
 fn tell_look(out: &mut [u64], l: Looked) -> u32
     ensures { reply result out.new ≡ lent (look_reply l) out.old }
 {
-    let size = l.size as u64;
-    let on = l.next.at as u64;
-    match l.told {
-        ReadAnswer::Record => tell(out, 0, [size, on]),
-        ReadAnswer::Other => tell(out, OTHER, [size, on]),
-        ReadAnswer::Done => tell(out, DONE, [size, on]),
-        ReadAnswer::Refused { number, place } => tell(out, number, [place as u64, on]),
-    }
+    let (number, value) = match l.told {
+        Ok(Found::Record) => (0, l.size),
+        Ok(Found::Other) => (OTHER, l.size),
+        Ok(Found::Done) => (DONE, l.size),
+        Err(refusal) => (refusal.number(), refusal.place()),
+    };
+    tell(out, number, [value as u64, l.next.at as u64])
 }
 
 // The object of a type at a position, copied to the front of `bytes`: 0 with its size and the next position; 101 where
@@ -40,7 +39,7 @@ pub extern "C" fn mshelovat_read(
         result bytes.old bytes.new out.old out.new }
 {
     let l = outcomes::look(log, Cursor { at }, kind);
-    let o = outcomes::cut(log, l);
+    let o = outcomes::cut(log, &l);
     if bytes.len() < o.len() {
         return ROOM;
     }
@@ -61,8 +60,5 @@ pub extern "C" fn mshelovat_write(object: &[u8], bytes: &mut [u8], out: &mut [u6
     if out.len() < 1 {
         return ROOM;
     }
-    match records::write_object(object, bytes) {
-        Written::Used(n) => tell(out, 0, [n as u64]),
-        Written::Refused { number, place } => tell(out, number, [place as u64]),
-    }
+    tell_count(out, records::write_object(object, bytes))
 }

@@ -3,36 +3,40 @@ ghost use Rattle.std.specs.Prelude.{◌≡◌, length};
 ghost use Rattle.ring.specs.Ring.{ring_at};
 ghost use Rattle.ring.specs.Handed.{scratch_at};
 ghost use Rattle.exported.specs.Replies.{reply, lent, Filled};
-ghost use Rattle.exported.specs.Rings.{ring_reply};
+ghost use Rattle.exported.specs.Rings.{segment, ring_reply};
 
 use crate::{DONE, ROOM, tell};
 use objects::Cursor;
-use ring::{RingAnswer, RingStep};
+use ring::{Part, RingStep};
 
-// Where an object lies; where there is none, 0 is told.
-const FIRST: u64 = 1;
+// Where an object lies.
+fn segment(lies: Part) -> u64
+    ensures { result ≡ segment lies }
+{
+    match lies {
+        Part::First => 1,
+        Part::Second => 2,
+        Part::Both => 3,
+    }
+}
 
-const SECOND: u64 = 2;
-
-const BOTH: u64 = 3;
-
-// Answers what a step found: the numbers of a step over one log, and then where the object lies.
+// Answers what a step found: the numbers of a step over one log, and then where the object lies, 0 where there is none.
 fn tell_ring(out: &mut [u64], s: RingStep) -> u32
     ensures { reply result out.new ≡ lent (ring_reply s) out.old }
 {
     let on = s.next.at as u64;
     match s.answer {
-        RingAnswer::First { start, size, kind } => {
-            tell(out, 0, [start as u64, size as u64, kind as u64, on, FIRST])
+        Ok(Some(found)) => {
+            let o = found.object;
+            let lies = segment(found.lies);
+            tell(
+                out,
+                0,
+                [o.start as u64, o.size as u64, o.kind as u64, on, lies],
+            )
         }
-        RingAnswer::Second { start, size, kind } => {
-            tell(out, 0, [start as u64, size as u64, kind as u64, on, SECOND])
-        }
-        RingAnswer::Copied { start, size, kind } => {
-            tell(out, 0, [start as u64, size as u64, kind as u64, on, BOTH])
-        }
-        RingAnswer::Done => tell(out, DONE, [on, 0, 0, on, 0]),
-        RingAnswer::Refused { number, place } => tell(out, number, [place as u64, 0, 0, on, 0]),
+        Ok(None) => tell(out, DONE, [on, 0, 0, on, 0]),
+        Err(refusal) => tell(out, refusal.number(), [refusal.place() as u64, 0, 0, on, 0]),
     }
 }
 
