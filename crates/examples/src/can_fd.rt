@@ -26,7 +26,7 @@ fn object() -> [u8; 120]
     ensures { 120 ≡ length result }
 {
     let mut log = [0u8; 120];
-    can_records::write_fd_message(message(64), &mut log);
+    let _ = can_records::write_fd_message(message(64), &mut log);
     log
 }
 

@@ -49,7 +49,7 @@ pub fn frames(rt: &impl Print) -> io::Result<()> {
 
 pub fn padding(rt: &impl Print) -> io::Result<()> {
     let mut log = samples::room();
-    flexray_records::write_receive(samples::receive(2, 4, 4), &mut log);
+    let _ = flexray_records::write_receive(samples::receive(2, 4, 4), &mut log);
     tell::walk_first(
         rt,
         b"a FlexRay receive of 330 bytes with its padding: ",
@@ -75,7 +75,7 @@ pub fn foreigners(rt: &impl Print) -> io::Result<()> {
 
 pub fn tails(rt: &impl Print) -> io::Result<()> {
     let mut log = samples::room();
-    lin_records::write_message(samples::message(), &mut log);
+    let _ = lin_records::write_message(samples::message(), &mut log);
     tell::step(
         rt,
         b"a LIN message whose exact header baud rate is 0: ",
@@ -110,7 +110,7 @@ pub fn tails(rt: &impl Print) -> io::Result<()> {
 
 pub fn counts(rt: &impl Print) -> io::Result<()> {
     let mut log = samples::room();
-    flexray_records::write_receive(samples::receive(2, 254, 254), &mut log);
+    let _ = flexray_records::write_receive(samples::receive(2, 254, 254), &mut log);
     let read = flexray_records::read_receive(&log, Cursor::new());
     tell::read(rt, b"data count 254 of 254: ", read.told)?;
     log[54] = 255;

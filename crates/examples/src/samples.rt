@@ -1,11 +1,10 @@
 // Objects that the examples begin with, and records.
 ghost use Rattle.std.specs.Prelude.{◌≡◌, ◌≤◌, ◌<◌, length};
 
-use headers::{Header, Origin};
-use outcomes::Written;
+use headers::{Header, Origin, Refusal};
 
 // Writes an overload of channel 1 to the front of `out`.
-pub fn put_overload(header: Header, out: &mut [u8]) -> Written {
+pub fn put_overload(header: Header, out: &mut [u8]) -> Result<usize, Refusal> {
     can_records::write_overload(can::Overload { header, channel: 1 }, out)
 }
 
@@ -14,7 +13,7 @@ pub fn overload() -> [u8; 36]
     ensures { 36 ≡ length result }
 {
     let mut log = [0u8; 36];
-    put_overload(header(2), &mut log);
+    let _ = put_overload(header(2), &mut log);
     log
 }
 
@@ -23,7 +22,7 @@ pub fn second_overload() -> [u8; 44]
     ensures { 44 ≡ length result }
 {
     let mut log = [0u8; 44];
-    put_overload(second(), &mut log);
+    let _ = put_overload(second(), &mut log);
     log
 }
 
@@ -45,12 +44,12 @@ pub fn frame() -> [u8; 1680]
     ensures { 1680 ≡ length result }
 {
     let mut log = room();
-    put_frame(&[0u8; 1612], &mut log);
+    let _ = put_frame(&[0u8; 1612], &mut log);
     log
 }
 
 // Writes a frame of these bytes to the front of `out`.
-pub fn put_frame(bytes: &[u8], out: &mut [u8]) -> Written {
+pub fn put_frame(bytes: &[u8], out: &mut [u8]) -> Result<usize, Refusal> {
     let mut frame = ethernet_records::frame_in(&[0u8; 64]);
     frame.header = header(2);
     ethernet_records::write_frame(frame, bytes, out)
@@ -62,7 +61,7 @@ pub fn behind(bytes: &[u8], at: usize) -> [u8; 1680]
     ensures { 1680 ≡ length result }
 {
     let mut log = room();
-    put_frame(bytes, &mut log);
+    let _ = put_frame(bytes, &mut log);
     let overload = overload();
     fields::put_bytes(&mut log, at, &overload);
     log

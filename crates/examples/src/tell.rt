@@ -1,21 +1,25 @@
 // Prints an example's words and what came out.
-use objects::{Answer, Cursor, Walked};
-use outcomes::{ReadAnswer, Written};
-use ring::RingAnswer;
+use objects::{Cursor, Entry, Refusal};
+use outcomes::Found;
+use ring::Part;
 use std::io;
 
-fn refused(rt: &impl Print, refusal: u32, place: usize) -> io::Result<()> {
-    println!(rt; "refused {refusal} at {place}")
+fn refused(rt: &impl Print, refusal: Refusal) -> io::Result<()> {
+    println!(rt; "refused {} at {}", refusal.number(), refusal.place())
+}
+
+// How many of something there are.
+fn count(rt: &impl Print, words: &[u8], n: Result<usize, Refusal>, of: &str) -> io::Result<()> {
+    rt.write_all(words)?;
+    match n {
+        Ok(n) => println!(rt; "{n} {of}"),
+        Err(refusal) => refused(rt, refusal),
+    }
 }
 
 // What a walk of the log answers.
 pub fn walk(rt: &impl Print, words: &[u8], log: &[u8]) -> io::Result<()> {
-    rt.write_all(words)?;
-    let walked = objects::walk(log);
-    match walked {
-        Walked::Count(n) => println!(rt; "{n} objects"),
-        Walked::Refused { number: k, place } => refused(rt, k, place),
-    }
+    count(rt, words, objects::walk(log), "objects")
 }
 
 // The same of the log's first n bytes.
@@ -27,44 +31,23 @@ pub fn walk_first(rt: &impl Print, words: &[u8], log: &[u8], n: usize) -> io::Re
 }
 
 // An object: its type, its start, its size.
-fn object(rt: &impl Print, kind: u32, start: usize, size: usize) -> io::Result<()> {
-    println!(rt; "type {kind} at {start}, size {size}")
+fn object(rt: &impl Print, o: Entry) -> io::Result<()> {
+    println!(rt; "type {} at {}, size {}", o.kind, o.start, o.size)
 }
 
 // What a step at a position answers.
 pub fn step(rt: &impl Print, words: &[u8], log: &[u8], at: usize) -> io::Result<()> {
     rt.write_all(words)?;
     let c = Cursor { at };
-    let step = c.step(log);
-    let answer = step.answer;
-    match answer {
-        Answer::Object { start, size, kind } => object(rt, kind, start, size),
-        Answer::Done => println!(rt; "done"),
-        Answer::Refused { number: k, place } => refused(rt, k, place),
+    match c.step(log).answer {
+        Ok(Some(o)) => object(rt, o),
+        Ok(None) => println!(rt; "done"),
+        Err(refusal) => refused(rt, refusal),
     }
 }
 
-// An object and where it lies, done or the refusal.
-fn ring_answer(rt: &impl Print, answer: RingAnswer) -> io::Result<()> {
-    match answer {
-        RingAnswer::First { start, size, kind } => {
-            print!(rt; "first, ")?;
-            object(rt, kind, start, size)
-        }
-        RingAnswer::Second { start, size, kind } => {
-            print!(rt; "second, ")?;
-            object(rt, kind, start, size)
-        }
-        RingAnswer::Copied { start, size, kind } => {
-            print!(rt; "copied, ")?;
-            object(rt, kind, start, size)
-        }
-        RingAnswer::Done => println!(rt; "done"),
-        RingAnswer::Refused { number: k, place } => refused(rt, k, place),
-    }
-}
-
-// What a step at a position answers where the log is cut in two, with a scratch of so many bytes, 64 at most.
+// What a step at a position answers where the log is cut in two, with a scratch of so many bytes, 64 at most; of an
+// object also where it lies.
 pub fn ring_step(
     rt: &impl Print,
     words: &[u8],
@@ -87,26 +70,33 @@ pub fn ring_step(
         Cursor { at },
         &mut scratch[..room],
     );
-    let answer = step.answer;
-    ring_answer(rt, answer)
+    match step.answer {
+        Ok(Some(found)) => {
+            let segment = match found.lies {
+                Part::First => "first",
+                Part::Second => "second",
+                Part::Both => "copied",
+            };
+            print!(rt; "{segment}, ")?;
+            object(rt, found.object)
+        }
+        Ok(None) => println!(rt; "done"),
+        Err(refusal) => refused(rt, refusal),
+    }
 }
 
 // What the read of one type is told.
-pub fn read(rt: &impl Print, words: &[u8], told: ReadAnswer) -> io::Result<()> {
+pub fn read(rt: &impl Print, words: &[u8], told: Result<Found, Refusal>) -> io::Result<()> {
     rt.write_all(words)?;
     match told {
-        ReadAnswer::Record => println!(rt; "read"),
-        ReadAnswer::Other => println!(rt; "other"),
-        ReadAnswer::Done => println!(rt; "done"),
-        ReadAnswer::Refused { number: k, place } => refused(rt, k, place),
+        Ok(Found::Record) => println!(rt; "read"),
+        Ok(Found::Other) => println!(rt; "other"),
+        Ok(Found::Done) => println!(rt; "done"),
+        Err(refusal) => refused(rt, refusal),
     }
 }
 
 // What a write answers.
-pub fn write(rt: &impl Print, words: &[u8], written: Written) -> io::Result<()> {
-    rt.write_all(words)?;
-    match written {
-        Written::Used(n) => println!(rt; "{n} bytes used"),
-        Written::Refused { number: k, place } => refused(rt, k, place),
-    }
+pub fn write(rt: &impl Print, words: &[u8], written: Result<usize, Refusal>) -> io::Result<()> {
+    count(rt, words, written, "bytes used")
 }

@@ -43,7 +43,7 @@ pub fn fields(rt: &impl Print) -> io::Result<()> {
 // FlexRay receive has three runs of reserved bytes: 39, 59, and 72 to 75.
 pub fn reserved(rt: &impl Print) -> io::Result<()> {
     let mut log = samples::room();
-    flexray_records::write_receive(samples::receive(2, 4, 4), &mut log);
+    let _ = flexray_records::write_receive(samples::receive(2, 4, 4), &mut log);
     log[75] = 1;
     tell::step(
         rt,
@@ -107,7 +107,7 @@ pub fn counts(rt: &impl Print) -> io::Result<()> {
     let mut receive = samples::receive(2, 4, 4);
     let header = samples::second();
     receive.header = header;
-    flexray_records::write_receive(receive, &mut log);
+    let _ = flexray_records::write_receive(receive, &mut log);
     tell::step(rt, b"a FlexRay receive under the second header: ", &log, 0)?;
     log[64] = 5;
     tell::step(rt, b"data count 5 of 4: ", &log, 0)?;
