@@ -12,3 +12,4 @@ pub mod Refused
 pub mod Faults
 pub mod Refusals
 pub mod Named
+pub mod TypeRows

@@ -3,24 +3,26 @@ ghost use Rattle.std.specs.Prelude.{◌≡◌, ◌+◌};
 ghost use Rattle.headers.specs.Format.{first_length};
 ghost use Rattle.headers.specs.Rows.{row_of, allowed};
 ghost use Rattle.headers.specs.Named.{type_number, Names};
+ghost use Rattle.headers.specs.TypeRows.{told};
 
 use crate::header::Header;
+use crate::types::{Row, TYPES};
 
 #[derive(Clone, Copy, Debug, PartialEq, Eq)]
 pub enum Kind {
-    CanMessage = 1,
-    CanOverload = 3,
-    CanStatistic = 4,
-    FlexRayReceive = 50,
-    LinMessage = 57,
-    LinWakeUp = 62,
-    CanMessageTwo = 86,
-    CanFdMessage = 100,
-    EthernetStatus = 103,
-    EthernetFrame = 120,
-    ForwardedFrame = 121,
-    EthernetError = 122,
-    ForwardedError = 123,
+    CanMessage,
+    CanOverload,
+    CanStatistic,
+    FlexRayReceive,
+    LinMessage,
+    LinWakeUp,
+    CanMessageTwo,
+    CanFdMessage,
+    EthernetStatus,
+    EthernetFrame,
+    ForwardedFrame,
+    EthernetError,
+    ForwardedError,
 }
 
 impl Kind {
@@ -29,48 +31,94 @@ impl Kind {
     pub fn of(number: u32) -> Option<Kind>
         ensures { Names result number }
     {
-        match number {
-            1 => Some(Kind::CanMessage),
-            3 => Some(Kind::CanOverload),
-            4 => Some(Kind::CanStatistic),
-            50 => Some(Kind::FlexRayReceive),
-            57 => Some(Kind::LinMessage),
-            62 => Some(Kind::LinWakeUp),
-            86 => Some(Kind::CanMessageTwo),
-            100 => Some(Kind::CanFdMessage),
-            103 => Some(Kind::EthernetStatus),
-            120 => Some(Kind::EthernetFrame),
-            121 => Some(Kind::ForwardedFrame),
-            122 => Some(Kind::EthernetError),
-            123 => Some(Kind::ForwardedError),
-            _ => None,
+        let row = TYPES[0];
+        if number == row.number {
+            return Some(row.kind);
         }
+        let row = TYPES[1];
+        if number == row.number {
+            return Some(row.kind);
+        }
+        let row = TYPES[2];
+        if number == row.number {
+            return Some(row.kind);
+        }
+        let row = TYPES[3];
+        if number == row.number {
+            return Some(row.kind);
+        }
+        let row = TYPES[4];
+        if number == row.number {
+            return Some(row.kind);
+        }
+        let row = TYPES[5];
+        if number == row.number {
+            return Some(row.kind);
+        }
+        let row = TYPES[6];
+        if number == row.number {
+            return Some(row.kind);
+        }
+        let row = TYPES[7];
+        if number == row.number {
+            return Some(row.kind);
+        }
+        let row = TYPES[8];
+        if number == row.number {
+            return Some(row.kind);
+        }
+        let row = TYPES[9];
+        if number == row.number {
+            return Some(row.kind);
+        }
+        let row = TYPES[10];
+        if number == row.number {
+            return Some(row.kind);
+        }
+        let row = TYPES[11];
+        if number == row.number {
+            return Some(row.kind);
+        }
+        let row = TYPES[12];
+        if number == row.number {
+            return Some(row.kind);
+        }
+        None
     }
 
     pub fn number(self) -> u32
         ensures { result ≡ type_number self }
     {
-        self as u32
+        self.row().number
+    }
+
+    // A type's row. The table is read at known places alone: then no code builds it anew.
+    #[tactic(auto, unfolding(crate::specs::Types::type_list, crate::specs::Rows::row_in))]
+    fn row(self) -> Row
+        ensures { told result ≡ row_of (type_number self) }
+    {
+        match self {
+            Kind::CanMessage => TYPES[0],
+            Kind::CanOverload => TYPES[1],
+            Kind::CanStatistic => TYPES[2],
+            Kind::FlexRayReceive => TYPES[3],
+            Kind::LinMessage => TYPES[4],
+            Kind::LinWakeUp => TYPES[5],
+            Kind::CanMessageTwo => TYPES[6],
+            Kind::CanFdMessage => TYPES[7],
+            Kind::EthernetStatus => TYPES[8],
+            Kind::EthernetFrame => TYPES[9],
+            Kind::ForwardedFrame => TYPES[10],
+            Kind::EthernetError => TYPES[11],
+            Kind::ForwardedError => TYPES[12],
+        }
     }
 
     // Whether its objects may have a size, under the first header.
     pub fn allows(self, size: u32) -> bool
         ensures { result ≡ allowed (row_of (type_number self)) size }
     {
-        match self {
-            Kind::CanMessage | Kind::EthernetStatus => size == 48,
-            Kind::CanOverload => size == 36,
-            Kind::CanStatistic => size == 60,
-            Kind::FlexRayReceive => size == 330,
-            Kind::LinMessage => matches!(size, 164 | 168 | 184),
-            Kind::LinWakeUp => size == 52,
-            Kind::CanMessageTwo => size == 56,
-            Kind::CanFdMessage => size == 120,
-            Kind::EthernetFrame
-            | Kind::ForwardedFrame
-            | Kind::EthernetError
-            | Kind::ForwardedError => 64 <= size && size <= 1676,
-        }
+        self.row().allows(size)
     }
 
     // Whether its objects may have a body of `n` bytes, whatever the header before it.

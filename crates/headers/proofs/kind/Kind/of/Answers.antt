@@ -7,9 +7,9 @@ use Rattle.headers.specs.Rows.{row_in, listed}
 use Rattle.headers.proofs.TypeSearch.{row_behind}
 use Rattle.headers.proofs.kind.Kind.of.Goals as goal
 
-pub returns-in_default : goal.returns-in_default
+pub returns : goal.returns
 unfolding type_list row_in
-returns-in_default c =
+returns c =
     let n = c.args.number in
     sym (ap listed (row_behind type_list [] n (
       (
