@@ -1,4 +1,4 @@
-// Two logs side by side, as two loggers on one bus wrote them: each object of the one that is not the same in the other.
+// Two logs side by side, as two loggers on one bus wrote them: each object of one that is not the same in the other.
 #![tactic(auto)]
 
 mod turns;

@@ -149,7 +149,8 @@ fn put_row(
 )
     requires { i < room (columns numbers.old firsts.old seconds.old kinds.old) }
     ensures { columns numbers.new firsts.new seconds.new kinds.new
-        ≡ listed_at i (row r.number r.first r.second (number_of r.kind) ∷ []) (columns numbers.old firsts.old seconds.old kinds.old) }
+        ≡ listed_at i (row r.number r.first r.second (number_of r.kind) ∷ [])
+        (columns numbers.old firsts.old seconds.old kinds.old) }
 {
     numbers[i] = r.number as u64;
     firsts[i] = r.first as u64;
@@ -167,7 +168,8 @@ pub(crate) fn fill(
     seconds: &mut [u64],
     kinds: &mut [u64],
 )
-    requires { (count_of first.now second.now ≡ Rows rows) × (rows ≤ room (columns numbers.old firsts.old seconds.old kinds.old)) }
+    requires { (count_of first.now second.now ≡ Rows rows)
+        × (rows ≤ room (columns numbers.old firsts.old seconds.old kinds.old)) }
     ensures { columns numbers.new firsts.new seconds.new kinds.new
         ≡ listed_at 0 (rows_of first.now second.now)
         (columns numbers.old firsts.old seconds.old kinds.old) }

@@ -2,17 +2,38 @@
 ghost use Rattle.std.specs.Prelude.{◌≡◌, ◌/◌, length};
 ghost use Rattle.headers.specs.Faults.{tested};
 ghost use Rattle.slips.specs.Cut.{entries_in, rises_from, shape_ok, fault_of, cut_of};
-ghost use Rattle.slips.specs.Inner.Rests.{read_at, filled};
+ghost use Rattle.slips.specs.Inner.Rests.{rest_at, read_at, filled};
 
 use headers::{Fault, Refusal};
 
-// A bundle has at most this many slips.
-pub const SLIPS: usize = 8;
+// What is left of a slip: its next entry, and its end.
+#[derive(Clone, Copy)]
+pub struct Place {
+    pub at: usize,
+    pub end: usize,
+}
 
-// What is left of the slips of a bundle, each a part of it.
+impl Place {
+    // A bundle has at most this many slips, and a place for each.
+    pub const SLIPS: usize = 8;
+
+    // The bytes from the next entry to the end; none where they are not in the bundle.
+    #[tactic(auto, unfolding(crate::specs::Inner::Rests::rest_at))]
+    pub fn rest(self, bundle: &[u8]) -> &[u8]
+        ensures { result.now ≡ rest_at bundle.now self }
+    {
+        if self.at <= self.end && self.end <= bundle.len() {
+            return &bundle[self.at..self.end];
+        }
+        &bundle[..0]
+    }
+}
+
+// The slips of a bundle, beside the objects of a log.
 #[derive(Clone, Copy)]
 pub struct Slips<'a> {
-    pub rests: [&'a [u8]; SLIPS],
+    pub bundle: &'a [u8],
+    pub places: [Place; Place::SLIPS],
 }
 
 // Whether the starts of these entries rise strictly.
@@ -70,10 +91,10 @@ impl<'a> Slips<'a> {
     pub fn read(b: &'a [u8]) -> Result<Slips<'a>, Refusal>
         ensures { read_at result ≡ filled (cut_of b.now) }
     {
-        let mut rests = [&b[..0]; SLIPS];
+        let mut places = [Place { at: 0, end: 0 }; Place::SLIPS];
         let mut at = 0;
         let mut least = 0;
-        for rest in &mut rests {
+        for place in &mut places {
             if at == b.len() {
                 break;
             }
@@ -81,14 +102,14 @@ impl<'a> Slips<'a> {
             if let Err(fault) = fault(t, least) {
                 return Err(fault.at(at));
             }
-            let end = 4 + fields::get32_be(t, 0) as usize;
-            *rest = &t[6..end];
+            let end = at + (4 + fields::get32_be(t, 0) as usize);
+            *place = Place { at: at + 6, end };
             least = t[5] as usize + 1;
-            at += end;
+            at = end;
         }
         if at < b.len() {
             return Err(Fault::Ninth.at(at));
         }
-        Ok(Slips { rests })
+        Ok(Slips { bundle: b, places })
     }
 }

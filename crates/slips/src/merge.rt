@@ -68,15 +68,16 @@ impl<'a> Slips<'a> {
         ensures hit { result.hits ≡ hits_of object (slips_at self.entry) }
         ensures lowest { result.low ≡ low_of object (slips_at self.entry) }
     {
-        let mut rests = self.rests;
+        let bundle = self.bundle;
+        let mut places = self.places;
         let mut hits = 0;
         let mut low = None;
-        for rest in &mut rests {
-            match compare(*rest, object) {
+        for place in &mut places {
+            match compare(place.rest(bundle), object) {
                 Compared::Miss => {}
                 Compared::Hit => {
                     hits += 1;
-                    *rest = &rest[12..];
+                    place.at += 12;
                 }
                 Compared::Stray(start) => {
                     low = Some(low.map_or(start, |least: usize| least.min(start)));
@@ -84,7 +85,7 @@ impl<'a> Slips<'a> {
             }
         }
         Merged {
-            slips: Slips { rests },
+            slips: Slips { bundle, places },
             hits,
             low,
         }

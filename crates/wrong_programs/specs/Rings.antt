@@ -7,7 +7,7 @@ use Rattle.segments.specs.Joined.{crosses}
 use Rattle.objects.specs.Kinds.{find}
 use Rattle.objects.specs.Table.{Row, row, object_of, head_rows, type_rows, table, first_of, place_of}
 use Rattle.objects.specs.Next.{cursor}
-use Rattle.ring.specs.Answers.{RingAnswer, First, Second, Copied, Done, Refused}
+use Rattle.ring.specs.Answers.{RingAnswer, First, Copied, Done, Refused}
 use Rattle.ring.specs.declared.RingStep.{RingStep}
 use Rattle.ring.specs.Ring.{fits, ring_table, placed, ring_at}
 use Rattle.ring.specs.Handed.{scratch_at}

@@ -7,15 +7,13 @@ use native.Mathlib.Omega.{arith}
 use native.Mathlib.Numerals.{add-one}
 use lib.ListN.{length, get_or, get_or-map, take, drop, set}
 use lib.Seq.{take-suc, drop-cons, append_snoc, get_or_at, set_at, length-take-le}
-use Rattle.std.specs.Prelude.{Option, Some, MatchOption}
+use Rattle.std.specs.Prelude.{Option, Some, MatchOption, map}
 use Rattle.std.specs.Prelude as opt
-use Rattle.std.specs.Borrow.{Bor}
 use Rattle.std.proofs.lemmas.List.{map-set, length-map}
 use Rattle.objects.specs.declared.Entry.{Entry}
 use Rattle.slips.specs.declared.merge.Compared.{Compared}
 use Rattle.slips.specs.declared.merge.Compared.TheVariants.{Miss, Hit, Stray}
 use Rattle.slips.specs.Cut.{slip_limit}
-use Rattle.slips.specs.Inner.Rests.{slip_at, slips_in}
 use Rattle.slips.specs.Inner.Merge.{compare_of, move, moved_of, hit_of, hits_of, lower, low_of}
 
 one_hit : (e : Compared) → hit_of e ≤ 1
@@ -94,10 +92,11 @@ module _ (o : Entry) where
           lowest = b ∙ rw (add-one, take-suc out₀ i [] inside, low_snoc, m.lowest, f);
         }
 
-  -- the same of the parts of the bundle
-  pub turn_at : (rs₀ rs : List (Bor (List ℕ))) {hits : ℕ} {low : Option ℕ} {i : ℕ} → i < slip_limit → length rs₀ ≡ slip_limit → Turning (slips_in rs₀) (slips_in rs) hits low i
-      → (d : Bor (List ℕ)) → slip_at d ≡ [] → (e : Compared) → compare_of o (slip_at (get_or rs i d)) ≡ e → (x : Bor (List ℕ)) → slip_at x ≡ move e (slip_at (get_or rs i d))
-      → {hits' : ℕ} → hits' ≡ hits + hit_of e → {low' : Option ℕ} → low' ≡ lower e low → Turning (slips_in rs₀) (slips_in (set rs i x)) hits' low' (i + 1)
-  turn_at rs₀ rs {hits} {low} {i} l len m d n e c x z a b =
-      let q : slip_at (get_or rs i d) ≡ get_or (slips_in rs) i [] = sym (rw n at (get_or-map slip_at rs i d)) in
-      rw (map-set slip_at rs i x, z, q) (turn (slips_in rs₀) (slips_in rs) hits low i l (length-map rs₀ slip_at ∙ len) m e (rw q at c) a b)
+  -- the same of what stands for slips, as places do
+  module _ {A : Type 0} (slip : A → List Entry) where
+    pub turn_at : (rs₀ rs : List A) {hits : ℕ} {low : Option ℕ} {i : ℕ} → i < slip_limit → length rs₀ ≡ slip_limit → Turning (map slip rs₀) (map slip rs) hits low i
+        → (d : A) → slip d ≡ [] → (e : Compared) → compare_of o (slip (get_or rs i d)) ≡ e → (x : A) → slip x ≡ move e (slip (get_or rs i d))
+        → {hits' : ℕ} → hits' ≡ hits + hit_of e → {low' : Option ℕ} → low' ≡ lower e low → Turning (map slip rs₀) (map slip (set rs i x)) hits' low' (i + 1)
+    turn_at rs₀ rs {hits} {low} {i} l len m d n e c x z a b =
+        let q : slip (get_or rs i d) ≡ get_or (map slip rs) i [] = sym (rw n at (get_or-map slip rs i d)) in
+        rw (map-set slip rs i x, z, q) (turn (map slip rs₀) (map slip rs) hits low i l (length-map rs₀ slip ∙ len) m e (rw q at c) a b)

@@ -1,22 +1,26 @@
 -- 01: "The check keeps one reading place for each of the eight slips." What is left of the slips of a bundle: as code
--- has it, parts of the bundle itself, and as the entries that stand there.
-use Rattle.std.specs.Prelude.{ℕ, ◌-◌, ◌/◌, List, [], ◌++◌, length, map, replicate, Result, Ok, Err}
-use Rattle.std.specs.Borrow.{Bor}
+-- has it, places, and as the entries that stand there.
+use Rattle.std.specs.Prelude.{ℕ, ◌-◌, ◌/◌, cond, ◌&&◌, List, [], ◌++◌, length, take, drop, map, replicate, leb, Result, Ok, Err}
 use Rattle.headers.specs.Refused.{Refused, refusal}
 use Rattle.objects.specs.declared.Entry.{Entry}
+use Rattle.slips.specs.declared.bundle.Place.{Place}
 use Rattle.slips.specs.declared.bundle.Slips as bundle
 use Rattle.slips.specs.Cut.{slip_limit, entries_in, Cut, Slips, Fault}
 use Rattle.slips.specs.Right.{entries_on}
 
--- the entries in a part of the bundle, and in each of some parts
-abbrev pub slip_at : Bor (List ℕ) → List Entry
-slip_at r = entries_in (length r.now / 12) r.now
+-- what is left at a place; nothing where it is not in the bundle
+unfoldable pub rest_at : List ℕ → Place → List ℕ
+rest_at b p = cond (leb p.at p.end && leb p.end (length b)) (take (p.end - p.at) (drop p.at b)) []
 
-abbrev pub slips_in : List (Bor (List ℕ)) → List (List Entry)
-slips_in rs = map slip_at rs
+-- the entries there, and at each of some places
+abbrev pub slip_at : List ℕ → Place → List Entry
+slip_at b p = entries_in (length (rest_at b p) / 12) (rest_at b p)
+
+abbrev pub slips_in : List ℕ → List Place → List (List Entry)
+slips_in b ps = map (slip_at b) ps
 
 abbrev pub slips_at : bundle.Slips → List (List Entry)
-slips_at s = slips_in s.rests
+slips_at s = slips_in s.bundle.now s.places
 
 -- in what was read, or what refuses
 abbrev pub read_at : Result bundle.Slips Refused → Result (List (List Entry)) Refused

@@ -8,10 +8,11 @@ use Rattle.ethernet_records.proofs.lent.write_as.Goals as goal
 
 pub put-requires : goal.put-requires
 put-requires g c =
+    let k = known (kind_of c.args.kind) in
     let b = c.begin.ensures in
     let z = c.in_ok-begin.was in (
-      omega (arith, body_room (known (kind_of c.args.kind)) b z c.length.ensures, c.length-n.ensures),
-      leb-true _ _ (allowed b z).content,
+      omega (arith, body_room k b z c.length.ensures, c.length-n.ensures),
+      leb-true _ _ (allowed k b z).content,
     )
 
 pub pad-requires : goal.pad-requires

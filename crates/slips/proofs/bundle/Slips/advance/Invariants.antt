@@ -4,5 +4,5 @@ use Rattle.slips.specs.Inner.Rests.{slips_in}
 use Rattle.slips.proofs.Loops.Turns.{Turning}
 use Rattle.slips.proofs.bundle.Slips.advance.Given as goal
 
-abbrev pub invariant-loop-rest : goal.invariant-loop-rest
-invariant-loop-rest l = Turning l.object (slips_in l.initial.rest-items) (slips_in l.rest-items) l.hits l.low l.rest-index
+abbrev pub invariant-loop-place : goal.invariant-loop-place
+invariant-loop-place l = Turning l.object (slips_in l.bundle l.initial.place-items) (slips_in l.bundle l.place-items) l.hits l.low l.place-index

@@ -1,6 +1,6 @@
 -- `slips::Slips::read` meets its contract: before each turn the slips that are cut off are the bundle's first, and
 -- what is left decides (`Cutting`). Assumes nothing.
-use mathlib.Core.Path.{◌≡◌, refl, sym}
+use mathlib.Core.Path.{◌≡◌, sym}
 use mathlib.Core.List.{List}
 use Prim.Native.Nat.{ℕ, ◌+◌, ◌<◌}
 use native.Mathlib.Omega.{arith}
@@ -11,31 +11,34 @@ use Rattle.fields.specs.Numbers.{Bytes}
 use Rattle.fields.proofs.Parts.{tail}
 use Rattle.headers.proofs.Numbers.{some_number}
 use Rattle.slips.specs.Cut.{length_in, desk_in}
-use Rattle.slips.proofs.Format.Chunks.{slip_part}
-use Rattle.slips.proofs.Loops.Cutting.{cut_done, cut_fault, cut_more, whole}
+use Rattle.slips.proofs.Loops.Places.{slip_placed, slip_nowhere}
+use Rattle.slips.proofs.Loops.Cutting.{cutting_none, cut_done, cut_fault, cut_more, whole}
 use Rattle.slips.proofs.bundle.Slips.read.Goals as goal
-use Rattle.slips.proofs.bundle.Slips.read.Goals.{else-loop-rest-test, then-loop-rest-test+then-at-b}
+use Rattle.slips.proofs.bundle.Slips.read.Goals.{else-loop-place-test, then-loop-place-test+then-at-b}
 
 -- the desk is a byte
 desk : (b : List ℕ) (at : ℕ) → Bytes b → desk_in (drop at b) < 256
 desk b at f = rw get_or-drop (f (at + 5))
 
+pub loop-place-init : goal.loop-place-init
+loop-place-init c = rw (slip_nowhere c.args.b.now) (cutting_none _)
+
 pub returns-in-Err : goal.returns-in-Err
 returns-in-Err c =
-    let more : c.loop-rest.at < length c.args.b.now = omega arith in
-    rw c.at.ensures (cut_fault _ _ _ _ _ c.loop-rest.invariant more (λ z. omega arith) _ (rw tail at c.in-Err.ensures) (some_number c.in-Err.fault))
+    let more : c.loop-place.at < length c.args.b.now = omega arith in
+    rw c.at.ensures (cut_fault _ _ _ _ _ c.loop-place.invariant more (λ z. omega arith) _ (rw tail at c.in-Err.ensures) (some_number c.in-Err.fault))
 
-pub loop-rest-preserved : goal.loop-rest-preserved
-loop-rest-preserved c =
+pub loop-place-preserved : goal.loop-place-preserved
+loop-place-preserved c =
     let b = c.args.b.now in
-    let at = c.loop-rest.at in
+    let at = c.loop-place.at in
     let more : at < length b = omega arith in
     let told : c.get32_be.result ≡ length_in (drop at b) = rw tail at c.get32_be.ensures in
-    let cut = slip_part (drop at b) (whole b at c.loop-rest.least c.in_default.ensures) _ refl in
-    rw (told, tail, map-set, cut)
-    (cut_more _ _ _ _ _ c.loop-rest.invariant more (λ z. omega arith) (sym (rw tail at c.in_default.ensures)) (desk b at (λ i. (c.type_inv.b i).fits)))
+    let placed = slip_placed b at _ (whole b at c.loop-place.least c.in_default.ensures) told in
+    rw (tail, map-set, placed, told)
+    (cut_more _ _ _ _ _ c.loop-place.invariant more (λ z. omega arith) (sym (rw tail at c.in_default.ensures)) (desk b at (λ i. (c.type_inv.b i).fits)))
 
 pub returns : goal.returns
 returns c =
-    let e = cut_done _ _ _ _ _ c.loop-rest.invariant c.if-at-b-2.false in
-    elim c.loop-rest-test.branch [ else-loop-rest-test w ↦ rw w.rests-is e | then-loop-rest-test+then-at-b w ↦ rw (w.rests-is, set-get_or) e ]
+    let e = cut_done _ _ _ _ _ c.loop-place.invariant c.if-at-b-2.false in
+    elim c.loop-place-test.branch [ else-loop-place-test w ↦ rw w.places-is e | then-loop-place-test+then-at-b w ↦ rw (w.places-is, set-get_or) e ]

@@ -4,5 +4,5 @@ use Rattle.slips.specs.Inner.Rests.{slips_in}
 use Rattle.slips.proofs.Loops.Cutting.{Cutting}
 use Rattle.slips.proofs.bundle.Slips.read.Given as goal
 
-abbrev pub invariant-loop-rest : goal.invariant-loop-rest
-invariant-loop-rest l = Cutting l.b (slips_in l.rest-items) l.at l.least l.rest-index
+abbrev pub invariant-loop-place : goal.invariant-loop-place
+invariant-loop-place l = Cutting l.b (slips_in l.b l.place-items) l.at l.least l.place-index

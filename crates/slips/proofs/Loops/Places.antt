@@ -1,0 +1,87 @@
+-- What is left at a place: of a slip that was cut off all its entries, and behind an entry that is hit the others.
+-- Assumes nothing.
+use mathlib.Core.Path.{◌≡◌, refl, sym, ap, ◌∙◌}
+use mathlib.Core.Bool.{Bool, true, false}
+use mathlib.Core.List.{List, []}
+use Prim.Native.Nat.{ℕ, ◌+◌, ◌-◌, ◌<◌, ◌≤◌}
+use native.Mathlib.Omega.{arith}
+use borrow.Author.Tests.{le-leb, lt-leb, leb-true, leb-false}
+use lib.ListN.{length, take, drop, length-drop, drop_of_length-le}
+use lib.Seq.{drop-drop, length-take-le}
+use lib.Dec.{leb}
+use Rattle.std.proofs.lemmas.List.{drop-take}
+use Rattle.objects.specs.declared.Entry.{Entry}
+use Rattle.slips.specs.declared.bundle.Place.{Place}
+use Rattle.slips.specs.declared.merge.Compared.TheVariants.{Hit}
+use Rattle.slips.specs.Cut.{length_in, slip_in}
+use Rattle.slips.specs.Inner.Rests.{rest_at, slip_at}
+use Rattle.slips.specs.Inner.Merge.{move, compare_of}
+use Rattle.slips.proofs.Format.SlipFaults.{Shape}
+use Rattle.slips.proofs.Format.Chunks.{slip_part, entries_behind, entries_none}
+
+module _ (b : List ℕ) where
+  rest_in : (p : Place) → p.at ≤ p.end → p.end ≤ length b → rest_at b p ≡ take (p.end - p.at) (drop p.at b)
+  unfolding rest_at
+  rest_in p l m = rw (le-leb p.at p.end l, le-leb p.end (length b) m)
+
+  rest_turned : (p : Place) → p.end < p.at → rest_at b p ≡ []
+  unfolding rest_at
+  rest_turned p l = rw (lt-leb p.at p.end l)
+
+  rest_past : (p : Place) (t : Bool) → leb p.at p.end ≡ t → length b < p.end → rest_at b p ≡ []
+  unfolding rest_at
+  rest_past p true e l = rw (e, lt-leb p.end (length b) l)
+  rest_past p false e l = rw e
+
+  -- a slip that was cut off
+  pub slip_placed : (at n : ℕ) → Shape (drop at b) → n ≡ length_in (drop at b) → slip_at b (record { at = at + 6; end = at + (4 + n) }) ≡ (slip_in (drop at b)).entries
+  slip_placed at n w e =
+      let p : Place = record { at = at + 6; end = at + (4 + n) } in
+      let z : p.end - p.at ≡ 4 + n - 6 = omega arith in
+      let d : drop (at + 6) b ≡ drop 6 (drop at b) = sym (drop-drop 6 at b) in
+      rw (rest_in p (omega (arith, w.two)) (omega (arith, w.within, length-drop at b)), z, d) (slip_part (drop at b) w n e)
+
+  -- past an entry
+
+  behind_in : (p : Place) (s : Bool) → leb (p.at + 12) p.end ≡ s → p.at ≤ p.end → p.end ≤ length b → rest_at b (record { at = p.at + 12; end = p.end }) ≡ drop 12 (rest_at b p)
+  behind_in p true e l m =
+      let h = leb-true (p.at + 12) p.end e in
+      let z : p.end - p.at ≡ 12 + (p.end - (p.at + 12)) = omega arith in
+      rw (rest_in (record { at = p.at + 12; end = p.end }) h m, rest_in p l m, z, drop-take, drop-drop)
+  behind_in p false e l m =
+      let h = leb-false (p.at + 12) p.end e in
+      let n : length (take (p.end - p.at) (drop p.at b)) ≤ 12 = omega (arith, length-take-le (p.end - p.at) (drop p.at b) (omega (arith, length-drop p.at b))) in
+      rw (rest_turned (record { at = p.at + 12; end = p.end }) h, rest_in p l m) (sym (drop_of_length-le (take (p.end - p.at) (drop p.at b)) n))
+
+  behind_by : (p : Place) (s t : Bool) → leb p.at p.end ≡ s → leb p.end (length b) ≡ t → rest_at b (record { at = p.at + 12; end = p.end }) ≡ drop 12 (rest_at b p)
+  behind_by p true true q r = behind_in p (leb (p.at + 12) p.end) refl (leb-true _ _ q) (leb-true _ _ r)
+  behind_by p true false q r =
+      let l = leb-false p.end (length b) r in
+      rw (rest_past (record { at = p.at + 12; end = p.end }) (leb (p.at + 12) p.end) refl l, rest_past p true q l)
+  behind_by p false t q r =
+      let l = leb-false p.at p.end q in
+      rw (rest_turned (record { at = p.at + 12; end = p.end }) (omega arith), rest_turned p l)
+
+  pub slip_behind : (p : Place) → slip_at b (record { at = p.at + 12; end = p.end }) ≡ move Hit (slip_at b p)
+  slip_behind p = rw (behind_by p (leb p.at p.end) (leb p.end (length b)) refl refl) (entries_behind (rest_at b p))
+
+  -- an entry that is hit stands in the bundle
+  inside_by : (p : Place) (s t : Bool) → leb p.at p.end ≡ s → leb p.end (length b) ≡ t → 12 ≤ length (rest_at b p) → p.at + 12 ≤ length b
+  inside_by p true true q r h =
+      let l = leb-true p.at p.end q in
+      let m = leb-true p.end (length b) r in
+      let n = ap length (rest_in p l m) ∙ length-take-le (p.end - p.at) (drop p.at b) (omega (arith, length-drop p.at b)) in
+      omega arith
+  inside_by p true false q r h = absurd (let n = ap length (rest_past p true q (leb-false p.end (length b) r)) in omega arith)
+  inside_by p false t q r h = absurd (let n = ap length (rest_turned p (leb-false p.at p.end q)) in omega arith)
+
+  hit_by : (o : Entry) (p : Place) (s : Bool) → leb 12 (length (rest_at b p)) ≡ s → compare_of o (slip_at b p) ≡ Hit → p.at + 12 ≤ length b
+  hit_by o p true e q = inside_by p (leb p.at p.end) (leb p.end (length b)) refl refl (leb-true _ _ e)
+  hit_by o p false e q = absurd (let z = rw (entries_none (rest_at b p) (leb-false _ _ e)) at q in cc)
+
+  pub hit_inside : (o : Entry) (p : Place) → compare_of o (slip_at b p) ≡ Hit → p.at + 12 ≤ length b
+  hit_inside o p q = hit_by o p (leb 12 (length (rest_at b p))) refl q
+
+  -- an empty place
+  pub slip_nowhere : slip_at b (record { at = 0; end = 0 }) ≡ []
+  slip_nowhere = rw (rest_in (record { at = 0; end = 0 }) (omega arith) (omega arith))
