@@ -2,4 +2,3 @@ pub mod Lending
 pub mod Recording
 pub mod Entering
 pub mod ListExact
-pub mod Lining

@@ -1,7 +1,7 @@
 -- The objects of a log from a place on, listed in a slice of numbers: three for each object, its start, size and type.
 use Rattle.std.specs.Prelude.{ℕ, ◌/◌, List, [], ◌∷◌, length}
 use Rattle.std.proofs.lemmas.List.Edits.{sets}
-use Rattle.objects.specs.Named.{Entry}
+use Rattle.objects.specs.declared.Entry.{Entry}
 use Rattle.objects.specs.Stepping.{Ended, at_end, refused, no_step_left, met_from}
 use Rattle.exported.specs.Replies.{Reply, reply}
 

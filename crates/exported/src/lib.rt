@@ -24,6 +24,9 @@ pub use record::{mshelovat_read, mshelovat_write};
 pub use rings::mshelovat_ring_step;
 pub use trays::{mshelovat_tray_first, mshelovat_tray_second};
 
+// The lent slice has no room for the answer's values.
+const ROOM: u32 = Fault::Room as u32;
+
 // The position is exactly the log's end.
 const DONE: u32 = 100;
 
@@ -32,7 +35,7 @@ fn tell<const N: usize>(out: &mut [u64], number: u32, values: [u64; N]) -> u32
     ensures { reply result out.new ≡ lent (reply number values.entry) out.old }
 {
     if out.len() < N {
-        return Fault::Room.number();
+        return ROOM;
     }
     out[..N].copy_from_slice(&values);
     number

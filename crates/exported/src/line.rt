@@ -5,8 +5,7 @@ ghost use Rattle.asc.specs.Objects.{line_step, line_into};
 ghost use Rattle.exported.specs.Replies.{reply, lent, Filled};
 ghost use Rattle.exported.specs.Lines.{object_reply, object_into, place_reply, reading_reply};
 
-use crate::{DONE, tell, tell_count};
-use headers::Fault;
+use crate::{DONE, ROOM, tell, tell_count};
 use objects::Cursor;
 
 // Writes the line of an object's bytes to the front of `bytes`, by `asc::object_line`: 0 and how many bytes it has,
@@ -17,7 +16,7 @@ pub extern "C" fn mshelovat_line(object: &[u8], bytes: &mut [u8], out: &mut [u64
         result bytes.old bytes.new out.old out.new }
 {
     if out.len() < 1 {
-        return Fault::Room.number();
+        return ROOM;
     }
     tell_count(out, asc::object_line(object, bytes))
 }
@@ -31,7 +30,7 @@ pub extern "C" fn mshelovat_line_at(log: &[u8], at: usize, bytes: &mut [u8], out
         result bytes.old bytes.new out.old out.new }
 {
     if out.len() < 2 {
-        return Fault::Room.number();
+        return ROOM;
     }
     let step = asc::line_at(log, Cursor { at }, bytes);
     let on = step.next.at as u64;

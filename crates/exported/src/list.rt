@@ -4,8 +4,7 @@ ghost use Rattle.std.proofs.lemmas.List.Edits.{sets};
 ghost use Rattle.exported.specs.Replies.{Filled};
 ghost use Rattle.exported.specs.Lists.{listed, list_of, list_reply};
 
-use crate::{DONE, tell};
-use headers::Fault;
+use crate::{DONE, ROOM, tell};
 use objects::{Cursor, Entry};
 
 // The number to be told, how many objects were listed, the position where the next call goes on, and the place of a
@@ -67,7 +66,7 @@ pub extern "C" fn mshelovat_list(log: &[u8], at: usize, entries: &mut [u64], out
         result entries.old entries.new out.old out.new }
 {
     if out.len() < 3 {
-        return Fault::Room.number();
+        return ROOM;
     }
     let l = list(log, at, entries);
     tell(out, l.number, [l.count as u64, l.at as u64, l.place as u64])

@@ -3,8 +3,7 @@ ghost use Rattle.std.specs.Prelude.{◌≡◌};
 ghost use Rattle.exported.specs.Replies.{reply, lent, Filled};
 ghost use Rattle.exported.specs.Records.{look_reply, read_reply, read_into, write_reply, write_into};
 
-use crate::{DONE, tell, tell_count};
-use headers::Fault;
+use crate::{DONE, ROOM, tell, tell_count};
 use objects::Cursor;
 use outcomes::{Found, Looked};
 
@@ -42,10 +41,10 @@ pub extern "C" fn mshelovat_read(
     let l = outcomes::look(log, Cursor { at }, kind);
     let o = outcomes::cut(log, &l);
     if bytes.len() < o.len() {
-        return Fault::Room.number();
+        return ROOM;
     }
     if out.len() < 2 {
-        return Fault::Room.number();
+        return ROOM;
     }
     fields::put_bytes(bytes, 0, o);
     tell_look(out, l)
@@ -59,7 +58,7 @@ pub extern "C" fn mshelovat_write(object: &[u8], bytes: &mut [u8], out: &mut [u6
         result bytes.old bytes.new out.old out.new }
 {
     if out.len() < 1 {
-        return Fault::Room.number();
+        return ROOM;
     }
     tell_count(out, records::write_object(object, bytes))
 }

@@ -5,8 +5,7 @@ ghost use Rattle.ring.specs.Handed.{scratch_at};
 ghost use Rattle.exported.specs.Replies.{reply, lent, Filled};
 ghost use Rattle.exported.specs.Rings.{segment, ring_reply};
 
-use crate::{DONE, tell};
-use headers::Fault;
+use crate::{DONE, ROOM, tell};
 use objects::Cursor;
 use ring::{Part, RingStep};
 
@@ -30,7 +29,11 @@ fn tell_ring(out: &mut [u64], s: RingStep) -> u32
         Ok(Some(found)) => {
             let o = found.object;
             let lies = segment(found.lies);
-            tell(out, 0, [o.start as u64, o.size as u64, o.kind as u64, on, lies])
+            tell(
+                out,
+                0,
+                [o.start as u64, o.size as u64, o.kind as u64, on, lies],
+            )
         }
         Ok(None) => tell(out, DONE, [on, 0, 0, on, 0]),
         Err(refusal) => tell(out, refusal.number(), [refusal.place() as u64, 0, 0, on, 0]),
@@ -53,7 +56,7 @@ pub extern "C" fn mshelovat_ring_step(
         result scratch.old scratch.new out.old out.new }
 {
     if out.len() < 5 {
-        return Fault::Room.number();
+        return ROOM;
     }
     let step = ring::step(first, second, Cursor { at }, scratch);
     tell_ring(out, step)

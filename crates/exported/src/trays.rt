@@ -4,8 +4,8 @@ ghost use Rattle.tray.specs.Tray.{tray_of};
 ghost use Rattle.exported.specs.Replies.{reply, lent, Filled};
 ghost use Rattle.exported.specs.Trays.{filled_reply, under_first, under_second, TrayFilled};
 
-use crate::tell;
-use headers::{Fault, Origin};
+use crate::{ROOM, tell};
+use headers::Origin;
 use tray::{Common, Trayed};
 
 // Answers the refusal, or 0, and how many messages were written.
@@ -32,7 +32,7 @@ fn write(
         result bytes.old bytes.new out.old out.new }
 {
     if out.len() < 1 {
-        return Fault::Room.number();
+        return ROOM;
     }
     let t = tray::write_messages(c, ids, stamps, data, bytes);
     tell_tray(out, t)

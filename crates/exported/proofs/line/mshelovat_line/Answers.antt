@@ -1,12 +1,12 @@
 -- `exported::line::mshelovat_line` meets its contract: too few numbers lent, or the outcome told. Assumes nothing.
-use Rattle.exported.proofs.Lining.{unlined, object_lined}
+use Rattle.exported.specs.Lines.{object_reply, object_into}
+use Rattle.exported.proofs.Lending.{uncounted, counted}
 use Rattle.exported.proofs.line.mshelovat_line.Goals as goal
 
 pub returns-then-out-lt1 : goal.returns-then-out-lt1
-returns-then-out-lt1 c = unlined _ _ _ c.if-out-lt1.true
+unfolding object_reply
+returns-then-out-lt1 c = uncounted _ c.if-out-lt1.true
 
-pub returns-in-Ok : goal.returns-in-Ok
-returns-in-Ok c = object_lined _ _ _ c.if-out-lt1.false c.object_line.ensures c.in-Ok.is c.tell.ensures
-
-pub returns-in-Err : goal.returns-in-Err
-returns-in-Err c = object_lined _ _ _ c.if-out-lt1.false c.object_line.ensures c.in-Err.is (rw (c.number.ensures, c.place.ensures) at c.tell-in-Err.ensures)
+pub returns : goal.returns
+unfolding object_reply object_into
+returns c = counted _ c.if-out-lt1.false c.object_line.ensures.answer c.object_line.ensures.buffer c.tell_count.ensures
