@@ -3,7 +3,7 @@ use Prim.Native.Nat.{ℕ}
 use mathlib.Core.Path.{◌≡◌, sym, ap, ◌∙◌}
 use mathlib.Core.List.{List}
 use Rattle.objects.specs.Items.{Item}
-use Rattle.outcomes.specs.declared.Written.{Written}
+use Rattle.outcomes.specs.Answers.{Written}
 use Rattle.outcomes.specs.Replies.{written_reply}
 use Rattle.outcomes.specs.Writes.{Outcome}
 use Rattle.records.specs.Rewrite.{Rewritten, buffer_by}

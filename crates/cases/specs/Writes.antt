@@ -1,6 +1,6 @@
 -- What a call leaves that writes to a buffer and replies: the answer in numbers, and the buffer as the library says.
 use Rattle.std.specs.Prelude.{◌≡◌, List, ℕ}
-use Rattle.outcomes.specs.declared.Written.{Written}
+use Rattle.outcomes.specs.Answers.{Written}
 use Rattle.outcomes.specs.Replies.{written_reply}
 use Rattle.cases.specs.declared.replies.Reply.{Reply}
 use Rattle.cases.specs.Replies.{used_reply}

@@ -1,11 +1,9 @@
 // A case as bytes, and its reply.
 ghost use Rattle.std.specs.Prelude.{◌≡◌};
 ghost use Rattle.objects.specs.Replies.{walk_reply};
-ghost use Rattle.slips.specs.Replies.{check_reply};
-ghost use Rattle.cases.specs.Replies.{replied, step_reply, count_reply, reply_to, reply_of};
+ghost use Rattle.cases.specs.Replies.{replied, numbers_of, step_reply, reply_to, reply_of};
 
-use objects::{Answer, Cursor, Step, Walked};
-use slips::Verdict;
+use objects::{Cursor, Refusal, Step};
 
 // A word for the kind of answer, and its numbers: those that it doesn't have are 0.
 #[derive(Clone, Copy)]
@@ -35,49 +33,37 @@ fn step_reply(step: Step) -> Reply
 {
     let to = step.next.at as u64;
     match step.answer {
-        Answer::Object { start, size, kind } => numbers(
-            1,
-            start as u64,
-            size as u64,
-            kind as u64,
-            to,
-        ),
-        Answer::Done => numbers(2, 0, 0, 0, to),
-        Answer::Refused { number, place } => numbers(3, number as u64, place as u64, 0, to),
+        Ok(Some(o)) => numbers(1, o.start as u64, o.size as u64, o.kind as u64, to),
+        Ok(None) => numbers(2, 0, 0, 0, to),
+        Err(refusal) => numbers(3, refusal.number() as u64, refusal.place() as u64, 0, to),
     }
 }
 
-fn walk_reply(walked: Walked) -> Reply
-    ensures { result ≡ count_reply (walk_reply walked) }
+// A count of objects or of bytes, with the word for it; or the refusal.
+pub(crate) fn count_reply(word: u64, count: Result<usize, Refusal>) -> Reply
+    ensures { result ≡ numbers_of word (walk_reply count) 0 }
 {
-    match walked {
-        Walked::Count(n) => numbers(4, n as u64, 0, 0, 0),
-        Walked::Refused { number, place } => numbers(3, number as u64, place as u64, 0, 0),
-    }
-}
-
-fn check_reply(verdict: Verdict) -> Reply
-    ensures { result ≡ count_reply (check_reply verdict) }
-{
-    match verdict {
-        Verdict::Accepted(n) => numbers(4, n as u64, 0, 0, 0),
-        Verdict::Refused { number, place } => numbers(3, number as u64, place as u64, 0, 0),
+    match count {
+        Ok(n) => numbers(word, n as u64, 0, 0, 0),
+        Err(refusal) => numbers(3, refusal.number() as u64, refusal.place() as u64, 0, 0),
     }
 }
 
 // The reply to a question: 1 for the step at a position, 2 for the walk, 3 for the check.
+#[tactic(auto, unfolding(crate::specs::Replies::reply_to))]
 fn reply_to(question: u8, at: usize, log: &[u8], bundle: &[u8]) -> Reply
     ensures { result ≡ reply_to question at log.now bundle.now }
 {
     match question {
         1 => step_reply(Cursor { at }.step(log)),
-        2 => walk_reply(objects::walk(log)),
-        3 => check_reply(slips::check(log, bundle)),
+        2 => count_reply(4, objects::walk(log)),
+        3 => count_reply(4, slips::check(log, bundle)),
         _ => numbers(0, 0, 0, 0, 0),
     }
 }
 
 // The reply to a case. Bytes that are no case get a reply of zeros.
+#[tactic(auto, unfolding(crate::specs::Replies::reply_of))]
 pub fn answer(case: &[u8]) -> Reply
     ensures { result ≡ reply_of case.now }
 {

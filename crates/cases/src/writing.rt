@@ -1,43 +1,30 @@
 // The questions that ask for a write: the fourth, a log read and written again; the sixth and the seventh, bytes
 // written as an object.
-ghost use Rattle.std.specs.Prelude.{◌≡◌};
 ghost use Rattle.objects.specs.Items.{foreign};
-ghost use Rattle.outcomes.specs.Replies.{written_reply};
 ghost use Rattle.outcomes.specs.Writes.{Outcome};
 ghost use Rattle.records.specs.Object.{item_in};
 ghost use Rattle.records.specs.Rewrite.{Rewritten};
-ghost use Rattle.cases.specs.Replies.{used_reply};
 ghost use Rattle.cases.specs.Writes.{Writes};
 
-use crate::replies::{Reply, numbers};
-use outcomes::Written;
-
-fn written_reply(written: Written) -> Reply
-    ensures { result ≡ used_reply (written_reply written) }
-{
-    match written {
-        Written::Used(n) => numbers(5, n as u64, 0, 0, 0),
-        Written::Refused { number, place } => numbers(3, number as u64, place as u64, 0, 0),
-    }
-}
+use crate::replies::{Reply, count_reply};
 
 // The reply to a log read and written again; `out` has what was written.
 pub fn rewrite_reply(log: &[u8], out: &mut [u8]) -> Reply
     ensures { Writes (Rewritten log.now) result out.old out.new }
 {
-    written_reply(records::rewrite(log, out))
+    count_reply(5, records::rewrite(log, out))
 }
 
 // The reply to bytes written as the object that they are; `out` has what was written.
 pub fn write_reply(bytes: &[u8], out: &mut [u8]) -> Reply
     ensures { Writes (Outcome (item_in bytes.now)) result out.old out.new }
 {
-    written_reply(records::write_object(bytes, out))
+    count_reply(5, records::write_object(bytes, out))
 }
 
 // The reply to bytes offered as a foreign object; `out` has what was written.
 pub fn foreign_reply(bytes: &[u8], out: &mut [u8]) -> Reply
     ensures { Writes (Outcome (foreign bytes.now)) result out.old out.new }
 {
-    written_reply(records::write_foreign(bytes, out))
+    count_reply(5, records::write_foreign(bytes, out))
 }

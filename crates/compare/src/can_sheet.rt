@@ -1,10 +1,6 @@
 // The CAN records as they are read: their numbers in the order of their fields.
-ghost use Rattle.std.specs.Prelude.{◌≤◌, length};
-ghost use Rattle.compare.specs.Kept.{Kept};
-
-use crate::sheet::{Sheet, put_all, put_header, put_read};
+use crate::sheet::{Sheet, put_all, put_header};
 use can::{FdMessage, Message, MessageTwo, Overload, Statistic};
-use objects::Cursor;
 
 impl Sheet for Message {
     fn put(self, out: &mut [u8]) -> usize {
@@ -71,44 +67,4 @@ impl Sheet for FdMessage {
         let end = put_all(out, at, &values);
         put_all(out, end, &self.bytes)
     }
-}
-
-pub fn message(out: &mut [u8], log: &[u8], c: Cursor) -> usize
-    requires { 40 ≤ length out.old }
-    ensures { Kept result out.old out.new }
-{
-    let read = can_records::read_message(log, c);
-    put_read(out, read.told, read.next, read.value, &log[..0])
-}
-
-pub fn overload(out: &mut [u8], log: &[u8], c: Cursor) -> usize
-    requires { 40 ≤ length out.old }
-    ensures { Kept result out.old out.new }
-{
-    let read = can_records::read_overload(log, c);
-    put_read(out, read.told, read.next, read.value, &log[..0])
-}
-
-pub fn statistic(out: &mut [u8], log: &[u8], c: Cursor) -> usize
-    requires { 40 ≤ length out.old }
-    ensures { Kept result out.old out.new }
-{
-    let read = can_records::read_statistic(log, c);
-    put_read(out, read.told, read.next, read.value, &log[..0])
-}
-
-pub fn message_two(out: &mut [u8], log: &[u8], c: Cursor) -> usize
-    requires { 40 ≤ length out.old }
-    ensures { Kept result out.old out.new }
-{
-    let read = can_records::read_message_two(log, c);
-    put_read(out, read.told, read.next, read.value, &log[..0])
-}
-
-pub fn fd_message(out: &mut [u8], log: &[u8], c: Cursor) -> usize
-    requires { 40 ≤ length out.old }
-    ensures { Kept result out.old out.new }
-{
-    let read = can_records::read_fd_message(log, c);
-    put_read(out, read.told, read.next, read.value, &log[..0])
 }

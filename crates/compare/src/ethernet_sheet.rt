@@ -1,10 +1,6 @@
 // The Ethernet records as they are read: their numbers in the order of their fields.
-ghost use Rattle.std.specs.Prelude.{◌≤◌, length};
-ghost use Rattle.compare.specs.Kept.{Kept};
-
-use crate::sheet::{Sheet, put_all, put_header, put_read};
+use crate::sheet::{Sheet, put_all, put_header};
 use ethernet::{Frame, FrameError, Status};
-use objects::Cursor;
 
 impl Sheet for Status {
     fn put(self, out: &mut [u8]) -> usize {
@@ -47,68 +43,4 @@ impl Sheet for FrameError {
         let at = self.frame.put(out);
         put_all(out, at, &[self.code])
     }
-}
-
-pub fn status(out: &mut [u8], log: &[u8], c: Cursor) -> usize
-    requires { 40 ≤ length out.old }
-    ensures { Kept result out.old out.new }
-{
-    let read = ethernet_records::read_status(log, c);
-    put_read(out, read.told, read.next, read.value, &log[..0])
-}
-
-pub fn frame(out: &mut [u8], log: &[u8], c: Cursor) -> usize
-    requires { 40 ≤ length out.old }
-    ensures { Kept result out.old out.new }
-{
-    let read = ethernet_records::read_frame(log, c);
-    put_read(
-        out,
-        read.told,
-        read.next,
-        read.value,
-        objects::frame(log, c),
-    )
-}
-
-pub fn forwarded_frame(out: &mut [u8], log: &[u8], c: Cursor) -> usize
-    requires { 40 ≤ length out.old }
-    ensures { Kept result out.old out.new }
-{
-    let read = ethernet_records::read_forwarded_frame(log, c);
-    put_read(
-        out,
-        read.told,
-        read.next,
-        read.value,
-        objects::frame(log, c),
-    )
-}
-
-pub fn frame_error(out: &mut [u8], log: &[u8], c: Cursor) -> usize
-    requires { 40 ≤ length out.old }
-    ensures { Kept result out.old out.new }
-{
-    let read = ethernet_records::read_error(log, c);
-    put_read(
-        out,
-        read.told,
-        read.next,
-        read.value,
-        objects::frame(log, c),
-    )
-}
-
-pub fn forwarded_error(out: &mut [u8], log: &[u8], c: Cursor) -> usize
-    requires { 40 ≤ length out.old }
-    ensures { Kept result out.old out.new }
-{
-    let read = ethernet_records::read_forwarded_error(log, c);
-    put_read(
-        out,
-        read.told,
-        read.next,
-        read.value,
-        objects::frame(log, c),
-    )
 }

@@ -1,10 +1,6 @@
 // The FlexRay record as it is read: its numbers in the order of its fields.
-ghost use Rattle.std.specs.Prelude.{◌≤◌, length};
-ghost use Rattle.compare.specs.Kept.{Kept};
-
-use crate::sheet::{Sheet, put_all, put_header, put_read};
+use crate::sheet::{Sheet, put_all, put_header};
 use flexray::Receive;
-use objects::Cursor;
 
 impl Sheet for Receive {
     fn put(self, out: &mut [u8]) -> usize {
@@ -29,12 +25,4 @@ impl Sheet for Receive {
         let end = put_all(out, at, &values);
         put_all(out, end, &self.bytes)
     }
-}
-
-pub fn receive(out: &mut [u8], log: &[u8], c: Cursor) -> usize
-    requires { 40 ≤ length out.old }
-    ensures { Kept result out.old out.new }
-{
-    let read = flexray_records::read_receive(log, c);
-    put_read(out, read.told, read.next, read.value, &log[..0])
 }

@@ -2,9 +2,8 @@
 ghost use Rattle.std.specs.Prelude.{◌≤◌, length};
 ghost use Rattle.compare.specs.Kept.{Kept};
 
-use crate::sheet::{Sheet, put_all, put_header, put_read};
+use crate::sheet::{Sheet, put_all, put_header};
 use lin::{Message, Tail, WakeUp};
-use objects::Cursor;
 
 // The bits of a rate; those of one NaN for all.
 fn bits(exact: f64) -> u64 {
@@ -87,20 +86,4 @@ impl Sheet for WakeUp {
         let at = put_header(out, self.header);
         put_all(out, at, &values)
     }
-}
-
-pub fn message(out: &mut [u8], log: &[u8], c: Cursor) -> usize
-    requires { 40 ≤ length out.old }
-    ensures { Kept result out.old out.new }
-{
-    let read = lin_records::read_message(log, c);
-    put_read(out, read.told, read.next, read.value, &log[..0])
-}
-
-pub fn wake_up(out: &mut [u8], log: &[u8], c: Cursor) -> usize
-    requires { 40 ≤ length out.old }
-    ensures { Kept result out.old out.new }
-{
-    let read = lin_records::read_wake_up(log, c);
-    put_read(out, read.told, read.next, read.value, &log[..0])
 }

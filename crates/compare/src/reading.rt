@@ -2,30 +2,34 @@
 ghost use Rattle.std.specs.Prelude.{◌≤◌, length};
 ghost use Rattle.compare.specs.Kept.{Kept};
 
-use crate::sheet::none;
-use crate::{can_sheet, ethernet_sheet, flexray_sheet, lin_sheet};
+use crate::sheet::{none, put_read};
+use headers::Kind;
 use objects::Cursor;
 
-// Reads the record of a type.
-fn read_as(kind: u32, out: &mut [u8], log: &[u8], c: Cursor) -> usize
+// Reads the record of a type, with the bytes of the frame that stands there.
+fn read_as(kind: Kind, out: &mut [u8], log: &[u8], c: Cursor) -> usize
     requires { 40 ≤ length out.old }
     ensures { Kept result out.old out.new }
 {
+    let frame = objects::frame(log, c);
     match kind {
-        1 => can_sheet::message(out, log, c),
-        3 => can_sheet::overload(out, log, c),
-        4 => can_sheet::statistic(out, log, c),
-        50 => flexray_sheet::receive(out, log, c),
-        57 => lin_sheet::message(out, log, c),
-        62 => lin_sheet::wake_up(out, log, c),
-        86 => can_sheet::message_two(out, log, c),
-        100 => can_sheet::fd_message(out, log, c),
-        103 => ethernet_sheet::status(out, log, c),
-        120 => ethernet_sheet::frame(out, log, c),
-        121 => ethernet_sheet::forwarded_frame(out, log, c),
-        122 => ethernet_sheet::frame_error(out, log, c),
-        123 => ethernet_sheet::forwarded_error(out, log, c),
-        _ => none(out),
+        Kind::CanMessage => put_read(out, can_records::read_message(log, c), frame),
+        Kind::CanOverload => put_read(out, can_records::read_overload(log, c), frame),
+        Kind::CanStatistic => put_read(out, can_records::read_statistic(log, c), frame),
+        Kind::FlexRayReceive => put_read(out, flexray_records::read_receive(log, c), frame),
+        Kind::LinMessage => put_read(out, lin_records::read_message(log, c), frame),
+        Kind::LinWakeUp => put_read(out, lin_records::read_wake_up(log, c), frame),
+        Kind::CanMessageTwo => put_read(out, can_records::read_message_two(log, c), frame),
+        Kind::CanFdMessage => put_read(out, can_records::read_fd_message(log, c), frame),
+        Kind::EthernetStatus => put_read(out, ethernet_records::read_status(log, c), frame),
+        Kind::EthernetFrame => put_read(out, ethernet_records::read_frame(log, c), frame),
+        Kind::ForwardedFrame => {
+            put_read(out, ethernet_records::read_forwarded_frame(log, c), frame)
+        }
+        Kind::EthernetError => put_read(out, ethernet_records::read_error(log, c), frame),
+        Kind::ForwardedError => {
+            put_read(out, ethernet_records::read_forwarded_error(log, c), frame)
+        }
     }
 }
 
@@ -45,5 +49,8 @@ pub fn read(out: &mut [u8], case: &[u8]) -> usize
     let c = Cursor {
         at: fields::get64(case, 9) as usize,
     };
-    read_as(fields::get32(case, end), out, &case[17..end], c)
+    match Kind::of(fields::get32(case, end)) {
+        Some(kind) => read_as(kind, out, &case[17..end], c),
+        None => none(out),
+    }
 }

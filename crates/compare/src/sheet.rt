@@ -6,8 +6,7 @@ ghost use Rattle.cases.specs.Replies.{reply_bytes};
 
 use cases::Reply;
 use headers::{Header, Origin};
-use objects::Cursor;
-use outcomes::ReadAnswer;
+use outcomes::{Found, Read};
 
 // Where the numbers begin: behind the reply.
 const FRONT: usize = 40;
@@ -104,32 +103,29 @@ pub trait Sheet {
         ensures { Kept result out.old out.new };
 }
 
-// Puts what a read answers: the record's numbers, and the reply: 6 and where they end, with the bytes of its frame
-// behind them; 7 for an object of another type; 2 at the log's end; 3 and the refusal. Answers where all ends.
-pub fn put_read<T: Sheet>(
-    out: &mut [u8],
-    told: ReadAnswer,
-    next: Cursor,
-    value: T,
-    frame: &[u8],
-) -> usize
+// Puts what a read answers: the record's numbers, and the reply: 6 and where they end, with the bytes of its frame behind
+// them; 7 for an object of another type; 2 at the log's end; 3 and the refusal. Answers where all ends.
+pub fn put_read<T: Sheet>(out: &mut [u8], read: Read<T>, frame: &[u8]) -> usize
     requires { 40 ≤ length out.old }
     ensures { Kept result out.old out.new }
 {
-    let end = value.put(out);
-    let to = next.at as u64;
-    match told {
-        ReadAnswer::Record => {
+    let end = read.value.put(out);
+    let to = read.next.at as u64;
+    match read.told {
+        Ok(Found::Record) => {
             put_reply(out, reply(6, end as u64, frame.len() as u64, to));
             return put_run(out, end, frame);
         }
-        ReadAnswer::Other => put_reply(out, reply(7, 0, 0, to)),
-        ReadAnswer::Done => put_reply(out, reply(2, 0, 0, to)),
-        ReadAnswer::Refused { number, place } => {
-            put_reply(out, reply(3, number as u64, place as u64, to));
+        Ok(Found::Other) => put_reply(out, reply(7, 0, 0, to)),
+        Ok(Found::Done) => put_reply(out, reply(2, 0, 0, to)),
+        Err(refusal) => {
+            put_reply(
+                out,
+                reply(3, refusal.number() as u64, refusal.place() as u64, to),
+            );
         }
     }
-    40
+    FRONT
 }
 
 // The reply to what is no case of ours: zeros.
@@ -138,5 +134,5 @@ pub fn none(out: &mut [u8]) -> usize
     ensures { Kept result out.old out.new }
 {
     put_reply(out, reply(0, 0, 0, 0));
-    40
+    FRONT
 }

@@ -4,19 +4,22 @@ use outcomes::Found;
 use ring::Part;
 use std::io;
 
-fn refused(rt: &impl Print, r: Refusal) -> io::Result<()> {
-    let number = r.number();
-    let place = r.place();
-    println!(rt; "refused {number} at {place}")
+fn refused(rt: &impl Print, refusal: Refusal) -> io::Result<()> {
+    println!(rt; "refused {} at {}", refusal.number(), refusal.place())
+}
+
+// How many of something there are.
+fn count(rt: &impl Print, words: &[u8], n: Result<usize, Refusal>, of: &str) -> io::Result<()> {
+    rt.write_all(words)?;
+    match n {
+        Ok(n) => println!(rt; "{n} {of}"),
+        Err(refusal) => refused(rt, refusal),
+    }
 }
 
 // What a walk of the log answers.
 pub fn walk(rt: &impl Print, words: &[u8], log: &[u8]) -> io::Result<()> {
-    rt.write_all(words)?;
-    match objects::walk(log) {
-        Ok(n) => println!(rt; "{n} objects"),
-        Err(r) => refused(rt, r),
-    }
+    count(rt, words, objects::walk(log), "objects")
 }
 
 // The same of the log's first n bytes.
@@ -39,7 +42,7 @@ pub fn step(rt: &impl Print, words: &[u8], log: &[u8], at: usize) -> io::Result<
     match c.step(log).answer {
         Ok(Some(o)) => object(rt, o),
         Ok(None) => println!(rt; "done"),
-        Err(r) => refused(rt, r),
+        Err(refusal) => refused(rt, refusal),
     }
 }
 
@@ -78,7 +81,7 @@ pub fn ring_step(
             object(rt, found.object)
         }
         Ok(None) => println!(rt; "done"),
-        Err(r) => refused(rt, r),
+        Err(refusal) => refused(rt, refusal),
     }
 }
 
@@ -89,15 +92,11 @@ pub fn read(rt: &impl Print, words: &[u8], told: Result<Found, Refusal>) -> io::
         Ok(Found::Record) => println!(rt; "read"),
         Ok(Found::Other) => println!(rt; "other"),
         Ok(Found::Done) => println!(rt; "done"),
-        Err(r) => refused(rt, r),
+        Err(refusal) => refused(rt, refusal),
     }
 }
 
 // What a write answers.
 pub fn write(rt: &impl Print, words: &[u8], written: Result<usize, Refusal>) -> io::Result<()> {
-    rt.write_all(words)?;
-    match written {
-        Ok(n) => println!(rt; "{n} bytes used"),
-        Err(r) => refused(rt, r),
-    }
+    count(rt, words, written, "bytes used")
 }

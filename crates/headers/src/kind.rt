@@ -25,6 +25,7 @@ pub enum Kind {
 
 impl Kind {
     // The type of a number; none where it is foreign.
+    #[inline(always)]
     pub fn of(number: u32) -> Option<Kind>
         ensures { Names result number }
     {

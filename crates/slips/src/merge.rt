@@ -63,6 +63,7 @@ fn compare(slip: &[u8], object: Entry) -> Compared
 
 impl<'a> Slips<'a> {
     // The slips, each moved past its entry of this object.
+    #[inline(always)]
     pub fn advance(self, object: Entry) -> Merged<'a>
         ensures moved { slips_at result.slips ≡ moved_of object (slips_at self.entry) }
         ensures hit { result.hits ≡ hits_of object (slips_at self.entry) }
