@@ -18,6 +18,7 @@ struct Listed {
 }
 
 // Lists one object at a place of the slice.
+#[tactic(auto, using(fields::proofs::Writing::copied))]
 fn enter(entries: &mut [u64], i: usize, o: Entry)
     requires { i + 3 ≤ length entries.old }
     ensures { entries.new ≡ sets entries.old i (o.start ∷ o.size ∷ o.kind ∷ []) }
@@ -26,6 +27,7 @@ fn enter(entries: &mut [u64], i: usize, o: Entry)
 }
 
 // Lists the objects from the cursor on, until there is no room, the log ends, or an object is refused.
+#[tactic(auto, using(crate::proofs::Entering::entering_none))]
 fn list(log: &[u8], at: usize, entries: &mut [u64]) -> Listed
     ensures { listed result.number result.count result.at result.place entries.new ≡ list_of log.now at entries.old }
 {
