@@ -3,33 +3,29 @@ ghost use Rattle.std.specs.Prelude.{◌≤◌, length};
 ghost use Rattle.compare.specs.Kept.{Kept};
 
 use crate::sheet::{none, put_read};
-use headers::Kind;
 use objects::Cursor;
 
 // Reads the record of a type, with the bytes of the frame that stands there.
-fn read_as(kind: Kind, out: &mut [u8], log: &[u8], c: Cursor) -> usize
+fn read_as(number: u32, out: &mut [u8], log: &[u8], c: Cursor) -> usize
     requires { 40 ≤ length out.old }
     ensures { Kept result out.old out.new }
 {
     let frame = objects::frame(log, c);
-    match kind {
-        Kind::CanMessage => put_read(out, can_records::read_message(log, c), frame),
-        Kind::CanOverload => put_read(out, can_records::read_overload(log, c), frame),
-        Kind::CanStatistic => put_read(out, can_records::read_statistic(log, c), frame),
-        Kind::FlexRayReceive => put_read(out, flexray_records::read_receive(log, c), frame),
-        Kind::LinMessage => put_read(out, lin_records::read_message(log, c), frame),
-        Kind::LinWakeUp => put_read(out, lin_records::read_wake_up(log, c), frame),
-        Kind::CanMessageTwo => put_read(out, can_records::read_message_two(log, c), frame),
-        Kind::CanFdMessage => put_read(out, can_records::read_fd_message(log, c), frame),
-        Kind::EthernetStatus => put_read(out, ethernet_records::read_status(log, c), frame),
-        Kind::EthernetFrame => put_read(out, ethernet_records::read_frame(log, c), frame),
-        Kind::ForwardedFrame => {
-            put_read(out, ethernet_records::read_forwarded_frame(log, c), frame)
-        }
-        Kind::EthernetError => put_read(out, ethernet_records::read_error(log, c), frame),
-        Kind::ForwardedError => {
-            put_read(out, ethernet_records::read_forwarded_error(log, c), frame)
-        }
+    match number {
+        1 => put_read(out, can_records::read_message(log, c), frame),
+        3 => put_read(out, can_records::read_overload(log, c), frame),
+        4 => put_read(out, can_records::read_statistic(log, c), frame),
+        50 => put_read(out, flexray_records::read_receive(log, c), frame),
+        57 => put_read(out, lin_records::read_message(log, c), frame),
+        62 => put_read(out, lin_records::read_wake_up(log, c), frame),
+        86 => put_read(out, can_records::read_message_two(log, c), frame),
+        100 => put_read(out, can_records::read_fd_message(log, c), frame),
+        103 => put_read(out, ethernet_records::read_status(log, c), frame),
+        120 => put_read(out, ethernet_records::read_frame(log, c), frame),
+        121 => put_read(out, ethernet_records::read_forwarded_frame(log, c), frame),
+        122 => put_read(out, ethernet_records::read_error(log, c), frame),
+        123 => put_read(out, ethernet_records::read_forwarded_error(log, c), frame),
+        _ => none(out),
     }
 }
 
@@ -49,8 +45,5 @@ pub fn read(out: &mut [u8], case: &[u8]) -> usize
     let c = Cursor {
         at: fields::get64(case, 9) as usize,
     };
-    match Kind::of(fields::get32(case, end)) {
-        Some(kind) => read_as(kind, out, &case[17..end], c),
-        None => none(out),
-    }
+    read_as(fields::get32(case, end), out, &case[17..end], c)
 }
