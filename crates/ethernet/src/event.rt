@@ -24,9 +24,9 @@ pub trait Lent: Record {
     fn header(self) -> Header
         ensures { result ≡ header self };
 
-    // The length of its body.
+    // The length of its body: of the structure and the frame's bytes.
     fn length(self, lent: &[u8]) -> usize
-        ensures { result ≡ length (body self lent.now) };
+        ensures { (result ≡ length (body self lent.now)) × (result ≡ structure_length + length lent.now) };
 
     // Its body, written at a place.
     fn put(self, out: &mut [u8], at: usize, lent: &[u8])

@@ -83,11 +83,6 @@ impl Lent for Frame {
     }
 }
 
-impl Frame {
-    // The most bytes that a frame has.
-    pub const LONGEST: usize = 1612;
-}
-
 // The frame's bytes, a part of the body of a frame or an error.
 pub fn frame_view(b: &[u8]) -> &[u8]
     requires { structure_length ≤ length b.now }

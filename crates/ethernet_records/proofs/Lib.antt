@@ -1,3 +1,4 @@
 pub mod FramedReading
 pub mod Exact
 pub mod Taking
+pub mod Short
