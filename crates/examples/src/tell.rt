@@ -4,16 +4,12 @@ use outcomes::Found;
 use ring::Part;
 use std::io;
 
-fn refused(rt: &impl Print, refusal: Refusal) -> io::Result<()> {
-    println!(rt; "refused {} at {}", refusal.number(), refusal.place())
-}
-
 // How many of something there are.
 fn count(rt: &impl Print, words: &[u8], n: Result<usize, Refusal>, of: &str) -> io::Result<()> {
     rt.write_all(words)?;
     match n {
         Ok(n) => println!(rt; "{n} {of}"),
-        Err(refusal) => refused(rt, refusal),
+        Err(refusal) => println!(rt; "{refusal}"),
     }
 }
 
@@ -42,7 +38,7 @@ pub fn step(rt: &impl Print, words: &[u8], log: &[u8], at: usize) -> io::Result<
     match c.step(log).answer {
         Ok(Some(o)) => object(rt, o),
         Ok(None) => println!(rt; "done"),
-        Err(refusal) => refused(rt, refusal),
+        Err(refusal) => println!(rt; "{refusal}"),
     }
 }
 
@@ -81,7 +77,7 @@ pub fn ring_step(
             object(rt, found.object)
         }
         Ok(None) => println!(rt; "done"),
-        Err(refusal) => refused(rt, refusal),
+        Err(refusal) => println!(rt; "{refusal}"),
     }
 }
 
@@ -92,7 +88,7 @@ pub fn read(rt: &impl Print, words: &[u8], told: Result<Found, Refusal>) -> io::
         Ok(Found::Record) => println!(rt; "read"),
         Ok(Found::Other) => println!(rt; "other"),
         Ok(Found::Done) => println!(rt; "done"),
-        Err(refusal) => refused(rt, refusal),
+        Err(refusal) => println!(rt; "{refusal}"),
     }
 }
 

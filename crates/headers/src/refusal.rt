@@ -1,7 +1,8 @@
 // What refuses: one of document 01's refusals, and the byte at fault. Contracts see its number and its place.
-ghost use Rattle.std.specs.Prelude.{◌≡◌};
+ghost use Rattle.std.specs.Prelude.{◌≡◌, ◌++◌, Some, codes, decimal};
 ghost use Rattle.headers.specs.Faults.{number_of};
 
+use std::fmt;
 use std::marker::Model;
 
 // The refusals, by document 01's names and numbers.
@@ -88,5 +89,14 @@ impl Refusal {
         ensures { result ≡ self.place }
     {
         self.place
+    }
+}
+
+// As `refused NUMBER at PLACE`.
+impl fmt::Display for Refusal {
+    ghost output = { λ r. Some (codes "refused " ++ (decimal r.number ++ (codes " at " ++ decimal r.place))) };
+
+    fn fmt<W: fmt::Write>(&self, f: &mut fmt::Formatter<W>) -> fmt::Result {
+        write!(f, "refused {} at {}", self.number(), self.place)
     }
 }

@@ -3,16 +3,12 @@ use headers::Refusal;
 use std::io;
 use tray::Trayed;
 
-fn refused(rt: &impl Print, refusal: Refusal) -> io::Result<()> {
-    println!(rt; "refused {} at {}", refusal.number(), refusal.place())
-}
-
 // What the check answers.
 pub fn check(rt: &impl Print, words: &[u8], log: &[u8], bundle: &[u8]) -> io::Result<()> {
     rt.write_all(words)?;
     match slips::check(log, bundle) {
         Ok(n) => println!(rt; "accepted {n}"),
-        Err(refusal) => refused(rt, refusal),
+        Err(refusal) => println!(rt; "{refusal}"),
     }
 }
 
@@ -21,7 +17,7 @@ pub fn write(rt: &impl Print, words: &[u8], written: Result<usize, Refusal>) -> 
     rt.write_all(words)?;
     match written {
         Ok(n) => println!(rt; "{n} bytes used"),
-        Err(refusal) => refused(rt, refusal),
+        Err(refusal) => println!(rt; "{refusal}"),
     }
 }
 
@@ -31,9 +27,6 @@ pub fn tray(rt: &impl Print, words: &[u8], t: Trayed) -> io::Result<()> {
     print!(rt; "written {}", t.written)?;
     match t.answer {
         Ok(()) => println!(rt; ""),
-        Err(refusal) => {
-            print!(rt; ", ")?;
-            refused(rt, refusal)
-        }
+        Err(refusal) => println!(rt; ", {refusal}"),
     }
 }
