@@ -6,5 +6,5 @@ mod told;
 mod writing;
 
 pub use reading::read;
-pub use told::{Counts, Frame, Head, Body, Told, shown};
+pub use told::{Body, Counts, Frame, Head, Told, shown};
 pub use writing::put_line;

@@ -3,7 +3,7 @@ ghost use Rattle.std.specs.Prelude.{◌≤◌, ◌≡◌};
 ghost use Rattle.asc_lines.specs.Reading.{head_in, head_end, frame_in, load_in, counts_in, possible_time, line_in};
 ghost use Rattle.asc_lines.specs.Reading.{candidate as Reading·candidate};
 
-use crate::told::{Counts, Frame, Head, Body, Told, shown};
+use crate::told::{Body, Counts, Frame, Head, Told, shown};
 use crate::writing::put_line;
 
 // The head of a text, and the place behind it.

@@ -5,7 +5,7 @@ ghost use Rattle.std.specs.Prelude.{◌+◌, ◌≤◌, length};
 ghost use Rattle.digits.specs.Text.{Said};
 ghost use Rattle.asc_lines.specs.Lines.{head_of, id_of, frame_of, load_of, frames_of, counts_of, rest_of, line_of};
 
-use crate::told::{Counts, Frame, Head, Body, Told, shown};
+use crate::told::{Body, Counts, Frame, Head, Told, shown};
 
 // `TIME CHANNEL`
 fn put_head(h: Head, out: &mut [u8], end: usize) -> usize

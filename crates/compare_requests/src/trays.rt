@@ -52,7 +52,13 @@ fn told_of(t: Trayed) -> [u64; 5] {
     let written = t.written as u64;
     match t.answer {
         Ok(()) => [11, written, 0, 0, 0],
-        Err(refusal) => [11, written, refusal.number() as u64, refusal.place() as u64, 0],
+        Err(refusal) => [
+            11,
+            written,
+            refusal.number() as u64,
+            refusal.place() as u64,
+            0,
+        ],
     }
 }
 
