@@ -1,9 +1,10 @@
 // The bundle: where its slips stand, or the first of 24 and 20 to 23 that refuses it.
-ghost use Rattle.std.specs.Prelude.{◌≡◌, ◌/◌, length};
+ghost use Rattle.std.specs.Prelude.{◌≡◌, ◌/◌, ◌≤◌, length};
 ghost use Rattle.headers.specs.Faults.{tested};
 ghost use Rattle.slips.specs.Cut.{entries_in, rises_from, shape_ok, fault_of, cut_of};
 ghost use Rattle.slips.specs.Inner.Rests.{rest_at, read_at, filled};
 
+use crate::left::Slips;
 use headers::{Fault, Refusal};
 
 // What is left of a slip: its next entry, and its end.
@@ -17,23 +18,17 @@ impl Place {
     // A bundle has at most this many slips, and a place for each.
     pub const SLIPS: usize = 8;
 
-    // The bytes from the next entry to the end; none where they are not in the bundle.
+    // The bytes from the next entry to the end, which is in the bundle; none behind it.
     #[tactic(auto, unfolding(crate::specs::Inner::Rests::rest_at))]
-    pub fn rest(self, bundle: &[u8]) -> &[u8]
+    pub(crate) fn rest(self, bundle: &[u8]) -> &[u8]
+        requires { self.end ≤ length bundle.now }
         ensures { result.now ≡ rest_at bundle.now self }
     {
-        if self.at <= self.end && self.end <= bundle.len() {
+        if self.at <= self.end {
             return &bundle[self.at..self.end];
         }
         &bundle[..0]
     }
-}
-
-// The slips of a bundle, beside the objects of a log.
-#[derive(Clone, Copy)]
-pub struct Slips<'a> {
-    pub bundle: &'a [u8],
-    pub places: [Place; Place::SLIPS],
 }
 
 // Whether the starts of these entries rise strictly.

@@ -2,7 +2,9 @@
 #![tactic(auto)]
 
 mod bundle;
+mod left;
 mod merge;
 mod pass;
 
+pub use bundle::Place;
 pub use pass::check;

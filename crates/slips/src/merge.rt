@@ -4,7 +4,7 @@ ghost use Rattle.slips.specs.Cut.{entries_in};
 ghost use Rattle.slips.specs.Inner.Rests.{slips_at};
 ghost use Rattle.slips.specs.Inner.Merge.{compare_of, moved_of, hits_of, low_of, trouble_at, refused_by};
 
-use crate::bundle::Slips;
+use crate::left::Slips;
 use headers::{Fault, Refusal};
 use objects::Entry;
 

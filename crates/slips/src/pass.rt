@@ -4,7 +4,7 @@ ghost use Rattle.slips.specs.Check.{check_of};
 ghost use Rattle.slips.specs.Inner.Rests.{slips_at};
 ghost use Rattle.slips.specs.Inner.Pass.{at_end_of, merge_log_of};
 
-use crate::bundle::Slips;
+use crate::left::Slips;
 use headers::{Fault, Refusal};
 use objects::{Cursor, Entry};
 

@@ -5,15 +5,17 @@ use mathlib.Core.Bool.{Bool, true, false}
 use mathlib.Core.List.{List, []}
 use Prim.Native.Nat.{ℕ, ◌+◌, ◌-◌, ◌<◌, ◌≤◌}
 use native.Mathlib.Omega.{arith}
-use borrow.Author.Tests.{le-leb, lt-leb, leb-true, leb-false}
-use lib.ListN.{length, take, drop, length-drop, drop_of_length-le}
+use borrow.Author.Tests.{le-leb, lt-leb, leb-true, leb-false, ltb-true, ltb-false}
+use lib.ListN.{length, take, drop, get_or, set, replicate, length-drop, drop_of_length-le, get_or-eq_default}
 use lib.Seq.{drop-drop, length-take-le}
-use lib.Dec.{leb}
+use lib.Dec.{leb, ltb}
 use Rattle.std.proofs.lemmas.List.{drop-take}
+use Rattle.std.proofs.lemmas.List.Elements.{All-set, All-replicate}
 use Rattle.objects.specs.declared.Entry.{Entry}
 use Rattle.slips.specs.declared.bundle.Place.{Place}
 use Rattle.slips.specs.declared.merge.Compared.TheVariants.{Hit}
 use Rattle.slips.specs.Cut.{length_in, slip_in}
+use Rattle.slips.specs.Inner.Ends.{EndsIn}
 use Rattle.slips.specs.Inner.Rests.{rest_at, slip_at}
 use Rattle.slips.specs.Inner.Merge.{move, compare_of}
 use Rattle.slips.proofs.Format.SlipFaults.{Shape}
@@ -85,3 +87,21 @@ module _ (b : List ℕ) where
   -- an empty place
   pub slip_nowhere : slip_at b (record { at = 0; end = 0 }) ≡ []
   slip_nowhere = rw (rest_in (record { at = 0; end = 0 }) (omega arith) (omega arith))
+
+-- Where places end: an empty one at 0, and one that another is put for where that one ends.
+
+abbrev pub nowhere : Place
+nowhere = record { at = 0; end = 0 }
+
+pub none_behind : (n m : ℕ) → EndsIn n (replicate m nowhere)
+none_behind n m = All-replicate (λ (p : Place). p.end ≤ n) m nowhere (omega arith)
+
+end_by : (n : ℕ) (ps : List Place) (i : ℕ) (s : Bool) → ltb i (length ps) ≡ s → EndsIn n ps → (get_or ps i nowhere).end ≤ n
+end_by n ps i true e w = w i nowhere (ltb-true _ _ e)
+end_by n ps i false e w = rw (get_or-eq_default ps nowhere (ltb-false _ _ e)) (omega arith)
+
+pub put_inside : (n : ℕ) (ps : List Place) (i : ℕ) (p : Place) → p.end ≤ n → EndsIn n ps → EndsIn n (set ps i p)
+put_inside n ps i p l w = All-set (λ (q : Place). q.end ≤ n) ps i p l w
+
+pub kept_inside : (n : ℕ) (ps : List Place) (i at : ℕ) → EndsIn n ps → EndsIn n (set ps i (record { at = at; end = (get_or ps i nowhere).end }))
+kept_inside n ps i at w = put_inside n ps i _ (end_by n ps i (ltb i (length ps)) refl w) w

@@ -4,7 +4,7 @@ use Rattle.std.specs.Prelude.{ℕ, ◌-◌, ◌/◌, cond, ◌&&◌, List, [], �
 use Rattle.headers.specs.Refused.{Refused, refusal}
 use Rattle.objects.specs.declared.Entry.{Entry}
 use Rattle.slips.specs.declared.bundle.Place.{Place}
-use Rattle.slips.specs.declared.bundle.Slips as bundle
+use Rattle.slips.specs.declared.left.Slips as left
 use Rattle.slips.specs.Cut.{slip_limit, entries_in, Cut, Slips, Fault}
 use Rattle.slips.specs.Right.{entries_on}
 
@@ -19,11 +19,11 @@ slip_at b p = entries_in (length (rest_at b p) / 12) (rest_at b p)
 abbrev pub slips_in : List ℕ → List Place → List (List Entry)
 slips_in b ps = map (slip_at b) ps
 
-abbrev pub slips_at : bundle.Slips → List (List Entry)
+abbrev pub slips_at : left.Slips → List (List Entry)
 slips_at s = slips_in s.bundle.now s.places
 
 -- in what was read, or what refuses
-abbrev pub read_at : Result bundle.Slips Refused → Result (List (List Entry)) Refused
+abbrev pub read_at : Result left.Slips Refused → Result (List (List Entry)) Refused
 read_at (Ok s) = Ok (slips_at s)
 read_at (Err r) = Err r
 

@@ -1,8 +1,0 @@
--- `slips::Slips::read` meets its contract: before each turn the slips that are cut off are the bundle's first, and
--- what is left decides (`Cutting`). Assumes nothing.
-use Rattle.slips.specs.Inner.Rests.{slips_in}
-use Rattle.slips.proofs.Loops.Cutting.{Cutting}
-use Rattle.slips.proofs.bundle.Slips.read.Given as goal
-
-abbrev pub invariant-loop-place : goal.invariant-loop-place
-invariant-loop-place l = Cutting l.b (slips_in l.b l.place-items) l.at l.least l.place-index
