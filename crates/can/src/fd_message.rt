@@ -29,7 +29,7 @@ pub struct FdMessage {
 }
 
 // Test 9, for reader and writer: whether the valid bytes are not above 64.
-fn valid_ok(valid: u8) -> bool
+pub fn valid_ok(valid: u8) -> bool
     ensures { result ≡ leb valid most_valid }
 {
     valid <= 64
