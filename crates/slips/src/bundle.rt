@@ -1,7 +1,8 @@
 // The bundle: where its slips stand, or the first of 24 and 20 to 23 that refuses it.
-ghost use Rattle.std.specs.Prelude.{◌≡◌, ◌/◌, ◌≤◌, length};
+ghost use Rattle.std.specs.Prelude.{◌≡◌, ◌/◌, length};
 ghost use Rattle.headers.specs.Faults.{tested};
 ghost use Rattle.slips.specs.Cut.{entries_in, rises_from, shape_ok, fault_of, cut_of};
+ghost use Rattle.slips.specs.Inner.Inside.{Inside};
 ghost use Rattle.slips.specs.Inner.Rests.{rest_at, read_at, filled};
 
 use crate::left::Slips;
@@ -18,16 +19,13 @@ impl Place {
     // A bundle has at most this many slips, and a place for each.
     pub const SLIPS: usize = 8;
 
-    // The bytes from the next entry to the end, which is in the bundle; none behind it.
+    // The bytes from the next entry to the end.
     #[tactic(auto, unfolding(crate::specs::Inner::Rests::rest_at))]
     pub(crate) fn rest(self, bundle: &[u8]) -> &[u8]
-        requires { self.end ≤ length bundle.now }
+        requires { Inside (length bundle.now) self }
         ensures { result.now ≡ rest_at bundle.now self }
     {
-        if self.at <= self.end {
-            return &bundle[self.at..self.end];
-        }
-        &bundle[..0]
+        &bundle[self.at..self.end]
     }
 }
 

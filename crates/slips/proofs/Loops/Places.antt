@@ -15,7 +15,7 @@ use Rattle.objects.specs.declared.Entry.{Entry}
 use Rattle.slips.specs.declared.bundle.Place.{Place}
 use Rattle.slips.specs.declared.merge.Compared.TheVariants.{Hit}
 use Rattle.slips.specs.Cut.{length_in, slip_in}
-use Rattle.slips.specs.Inner.Ends.{EndsIn}
+use Rattle.slips.specs.Inner.Inside.{Inside, AllInside}
 use Rattle.slips.specs.Inner.Rests.{rest_at, slip_at}
 use Rattle.slips.specs.Inner.Merge.{move, compare_of}
 use Rattle.slips.proofs.Format.SlipFaults.{Shape}
@@ -67,41 +67,53 @@ module _ (b : List ℕ) where
   pub slip_behind : (p : Place) → slip_at b (record { at = p.at + 12; end = p.end }) ≡ move Hit (slip_at b p)
   slip_behind p = rw (behind_by p (leb p.at p.end) (leb p.end (length b)) refl refl) (entries_behind (rest_at b p))
 
-  -- an entry that is hit stands in the bundle
-  inside_by : (p : Place) (s t : Bool) → leb p.at p.end ≡ s → leb p.end (length b) ≡ t → 12 ≤ length (rest_at b p) → p.at + 12 ≤ length b
+  -- an entry that is hit stands before the slip's end, and that in the bundle
+  inside_by : (p : Place) (s t : Bool) → leb p.at p.end ≡ s → leb p.end (length b) ≡ t → 12 ≤ length (rest_at b p) → (p.at + 12 ≤ p.end) × (p.end ≤ length b)
   inside_by p true true q r h =
       let l = leb-true p.at p.end q in
       let m = leb-true p.end (length b) r in
       let n = ap length (rest_in p l m) ∙ length-take-le (p.end - p.at) (drop p.at b) (omega (arith, length-drop p.at b)) in
-      omega arith
+      (omega arith, m)
   inside_by p true false q r h = absurd (let n = ap length (rest_past p true q (leb-false p.end (length b) r)) in omega arith)
   inside_by p false t q r h = absurd (let n = ap length (rest_turned p (leb-false p.at p.end q)) in omega arith)
 
-  hit_by : (o : Entry) (p : Place) (s : Bool) → leb 12 (length (rest_at b p)) ≡ s → compare_of o (slip_at b p) ≡ Hit → p.at + 12 ≤ length b
+  hit_by : (o : Entry) (p : Place) (s : Bool) → leb 12 (length (rest_at b p)) ≡ s → compare_of o (slip_at b p) ≡ Hit → (p.at + 12 ≤ p.end) × (p.end ≤ length b)
   hit_by o p true e q = inside_by p (leb p.at p.end) (leb p.end (length b)) refl refl (leb-true _ _ e)
   hit_by o p false e q = absurd (let z = rw (entries_none (rest_at b p) (leb-false _ _ e)) at q in cc)
 
+  pub hit_before_end : (o : Entry) (p : Place) → compare_of o (slip_at b p) ≡ Hit → p.at + 12 ≤ p.end
+  hit_before_end o p q = (hit_by o p (leb 12 (length (rest_at b p))) refl q).0
+
   pub hit_inside : (o : Entry) (p : Place) → compare_of o (slip_at b p) ≡ Hit → p.at + 12 ≤ length b
-  hit_inside o p q = hit_by o p (leb 12 (length (rest_at b p))) refl q
+  hit_inside o p q = let l = hit_by o p (leb 12 (length (rest_at b p))) refl q in omega (arith, l.0, l.1)
 
   -- an empty place
   pub slip_nowhere : slip_at b (record { at = 0; end = 0 }) ≡ []
   slip_nowhere = rw (rest_in (record { at = 0; end = 0 }) (omega arith) (omega arith))
 
--- Where places end: an empty one at 0, and one that another is put for where that one ends.
+-- All places stand in the bundle: empty ones, and where one is put for another.
 
 abbrev pub nowhere : Place
 nowhere = record { at = 0; end = 0 }
 
-pub none_behind : (n m : ℕ) → EndsIn n (replicate m nowhere)
-none_behind n m = All-replicate (λ (p : Place). p.end ≤ n) m nowhere (omega arith)
+pub none_behind : (n m : ℕ) → AllInside n (replicate m nowhere)
+none_behind n m = All-replicate (Inside n) m nowhere (omega arith, omega arith)
 
-end_by : (n : ℕ) (ps : List Place) (i : ℕ) (s : Bool) → ltb i (length ps) ≡ s → EndsIn n ps → (get_or ps i nowhere).end ≤ n
-end_by n ps i true e w = w i nowhere (ltb-true _ _ e)
-end_by n ps i false e w = rw (get_or-eq_default ps nowhere (ltb-false _ _ e)) (omega arith)
+inside_at : (n : ℕ) (ps : List Place) (i : ℕ) (s : Bool) → ltb i (length ps) ≡ s → AllInside n ps → Inside n (get_or ps i nowhere)
+inside_at n ps i true e w = w i nowhere (ltb-true _ _ e)
+inside_at n ps i false e w = rw (get_or-eq_default ps nowhere (ltb-false _ _ e)) (omega arith, omega arith)
 
-pub put_inside : (n : ℕ) (ps : List Place) (i : ℕ) (p : Place) → p.end ≤ n → EndsIn n ps → EndsIn n (set ps i p)
-put_inside n ps i p l w = All-set (λ (q : Place). q.end ≤ n) ps i p l w
+pub place_inside : (n : ℕ) (ps : List Place) (i : ℕ) → AllInside n ps → Inside n (get_or ps i nowhere)
+place_inside n ps i w = inside_at n ps i (ltb i (length ps)) refl w
 
-pub kept_inside : (n : ℕ) (ps : List Place) (i at : ℕ) → EndsIn n ps → EndsIn n (set ps i (record { at = at; end = (get_or ps i nowhere).end }))
-kept_inside n ps i at w = put_inside n ps i _ (end_by n ps i (ltb i (length ps)) refl w) w
+pub put_inside : (n : ℕ) (ps : List Place) (i : ℕ) (p : Place) → Inside n p → AllInside n ps → AllInside n (set ps i p)
+put_inside n ps i p l w = All-set (Inside n) ps i p l w
+
+pub kept_inside : (n : ℕ) (ps : List Place) (i : ℕ) → AllInside n ps → AllInside n (set ps i (get_or ps i nowhere))
+kept_inside n ps i w = put_inside n ps i _ (place_inside n ps i w) w
+
+module _ (b : List ℕ) (ps : List Place) (i : ℕ) (o : Entry) (w : AllInside (length b) ps) (q : compare_of o (slip_at b (get_or ps i nowhere)) ≡ Hit) where
+  pub moved_inside : AllInside (length b) (set ps i (record { at = (get_or ps i nowhere).at + 12; end = (get_or ps i nowhere).end }))
+  moved_inside =
+      let p = get_or ps i nowhere in
+      put_inside (length b) ps i _ (hit_before_end b o p q, (place_inside (length b) ps i w).1) w

@@ -1,5 +1,5 @@
 -- `slips::Slips::advance` meets its contract: before each turn the first slips are moved and the others stand where they
--- stood (`Turning`), all end in the bundle, and each turn moves one more. Assumes nothing.
+-- stood (`Turning`), all stand in the bundle, and each turn moves one more. Assumes nothing.
 use mathlib.Core.Path.{◌≡◌, refl, sym, ◌∙◌}
 use Prim.Native.Nat.{◌<◌}
 use native.Mathlib.Omega.{arith}
@@ -8,7 +8,7 @@ use lib.ListN.{length}
 use Rattle.slips.specs.Cut.{slip_limit}
 use Rattle.slips.specs.declared.merge.Compared.TheVariants.{Miss, Hit, Stray}
 use Rattle.slips.specs.Inner.Rests.{slip_at}
-use Rattle.slips.proofs.Loops.Places.{slip_behind, hit_inside, slip_nowhere, kept_inside}
+use Rattle.slips.proofs.Loops.Places.{slip_behind, hit_inside, slip_nowhere, kept_inside, moved_inside}
 use Rattle.slips.proofs.Loops.Turns.{lowest_stray, turn_at}
 use Rattle.slips.proofs.left.Slips.advance.Goals as goal
 use Rattle.slips.proofs.left.Slips.advance.Goals.{in-Miss, in-Hit, in-Stray}
@@ -27,18 +27,18 @@ loop-place-preserved c =
     let eight : length c.args.self.places ≡ slip_limit = search rules in
     let e = sym (rw c.rest.ensures at c.compare.ensures) in
     let m = c.loop-place.invariant.turning in
-    let ends = c.loop-place.invariant.ends in
+    let inside = c.loop-place.invariant.inside in
     elim c.match-compare.branch [
       | in-Miss w ↦ rw (w.place-items-is, w.hits-is, w.low-is) (record {
           turning = turn_at _ (slip_at b) _ _ below eight m _ none Miss (e ∙ w.in-Miss.is) _ refl (omega arith) refl;
-          ends = kept_inside _ _ _ _ ends;
+          inside = kept_inside _ _ _ inside;
         })
       | in-Hit w ↦ rw (w.place-items-is, w.hits-is, w.low-is) (record {
           turning = turn_at _ (slip_at b) _ _ below eight m _ none Hit (e ∙ w.in-Hit.is) _ (slip_behind b _) refl refl;
-          ends = kept_inside _ _ _ _ ends;
+          inside = moved_inside b _ _ _ inside (e ∙ w.in-Hit.is);
         })
       | in-Stray w ↦ rw (w.place-items-is, w.hits-is, w.low-is) (record {
           turning = turn_at _ (slip_at b) _ _ below eight m _ none (Stray w.in-Stray.start) (e ∙ w.in-Stray.is) _ refl (omega arith) (search (rules, lowest_stray));
-          ends = kept_inside _ _ _ _ ends;
+          inside = kept_inside _ _ _ inside;
         })
     ]

@@ -1,7 +1,7 @@
 -- `slips::Slips::advance` meets its contract: before each turn the first slips are moved and the others stand where they
--- stood (`Turning`), all end in the bundle, and each turn moves one more. Assumes nothing.
+-- stood (`Turning`), all stand in the bundle, and each turn moves one more. Assumes nothing.
 use lib.ListN.{length}
-use Rattle.slips.specs.Inner.Ends.{EndsIn}
+use Rattle.slips.specs.Inner.Inside.{AllInside}
 use Rattle.slips.specs.Inner.Rests.{slips_in}
 use Rattle.slips.proofs.Loops.Turns.{Turning}
 use Rattle.slips.proofs.left.Slips.advance.Given as goal
@@ -9,5 +9,5 @@ use Rattle.slips.proofs.left.Slips.advance.Given as goal
 abbrev pub invariant-loop-place : goal.invariant-loop-place
 invariant-loop-place l = record {
   turning : Turning l.object (slips_in l.bundle l.initial.place-items) (slips_in l.bundle l.place-items) l.hits l.low l.place-index;
-  ends : EndsIn (length l.bundle) l.place-items;
+  inside : AllInside (length l.bundle) l.place-items;
 }

@@ -21,7 +21,7 @@ desk : (b : List ℕ) (at : ℕ) → Bytes b → desk_in (drop at b) < 256
 desk b at f = rw get_or-drop (f (at + 5))
 
 pub loop-place-init : goal.loop-place-init
-loop-place-init c = record { cutting = rw (slip_nowhere c.args.b.now) (cutting_none _); ends = none_behind _ slip_limit }
+loop-place-init c = record { cutting = rw (slip_nowhere c.args.b.now) (cutting_none _); inside = none_behind _ slip_limit }
 
 pub returns-in-Err : goal.returns-in-Err
 returns-in-Err c =
@@ -40,7 +40,7 @@ loop-place-preserved c =
       cutting =
           rw (tail, map-set, placed, told)
           (cut_more _ _ _ _ _ c.loop-place.invariant.cutting more (λ z. omega arith) (sym (rw tail at c.in_default.ensures)) (desk b at (λ i. (c.type_inv.b i).fits)));
-      ends = put_inside _ _ _ _ (omega (arith, told, w.within, length-drop at b)) c.loop-place.invariant.ends;
+      inside = put_inside _ _ _ _ (omega (arith, w.two, told), omega (arith, told, w.within, length-drop at b)) c.loop-place.invariant.inside;
     }
 
 pub returns : goal.returns

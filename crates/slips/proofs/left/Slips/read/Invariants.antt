@@ -1,7 +1,7 @@
 -- `slips::Slips::read` meets its contract: before each turn the slips that are cut off are the bundle's first, and what
--- is left decides (`Cutting`); all end in the bundle. Assumes nothing.
+-- is left decides (`Cutting`); all stand in the bundle. Assumes nothing.
 use lib.ListN.{length}
-use Rattle.slips.specs.Inner.Ends.{EndsIn}
+use Rattle.slips.specs.Inner.Inside.{AllInside}
 use Rattle.slips.specs.Inner.Rests.{slips_in}
 use Rattle.slips.proofs.Loops.Cutting.{Cutting}
 use Rattle.slips.proofs.left.Slips.read.Given as goal
@@ -9,5 +9,5 @@ use Rattle.slips.proofs.left.Slips.read.Given as goal
 abbrev pub invariant-loop-place : goal.invariant-loop-place
 invariant-loop-place l = record {
   cutting : Cutting l.b (slips_in l.b l.place-items) l.at l.least l.place-index;
-  ends : EndsIn (length l.b) l.place-items;
+  inside : AllInside (length l.b) l.place-items;
 }
