@@ -4,7 +4,7 @@ use mathlib.Core.Bool.{Bool, true, false, cond, false≢true}
 use mathlib.Core.Logic.{◌⊎◌, inl, inr, ⊎_elim}
 use mathlib.Core.List.{List}
 use Prim.Native.Nat.{ℕ, ◌≤◌, ◌<◌}
-use borrow.Author.Tests.{le-leb, lt-leb, eq-eqb, ne_eqb}
+use borrow.Author.Tests.{le-leb, lt-leb, eqb-true, eq-eqb, ne_eqb}
 use lib.ListN.{length}
 use lib.Dec.{eqb}
 use Rattle.std.specs.Prelude.{Option, Some, None, Result, Ok, Err}
@@ -116,60 +116,86 @@ pub record Headed (o : List ℕ) : Type 0 where
 pub headed : {A : Type 0} {o : List ℕ} {n : ℕ} (r : Result A Fault) → head_size ≤ length o → tested r ≡ head_fault o → is_ok r ≡ true → n ≡ size_at o → n ≡ length o → Headed o
 headed r l f t e q = record { long = l; head = sym f ∙ let_through r t; size = sym e ∙ q }
 
-module _ (o : List ℕ) (p : Headed o) where
+-- of bytes that 2 to 4 let through
+module _ (o : List ℕ) (long : head_size ≤ length o) (head : head_fault o ≡ 0) (size : size_at o ≡ length o) where
   -- 8 and 9 decide
   inner_decides : {b : Bool} → eqb (inner_fault_of (kind_at o) o) 0 ≡ b → cond b (event_as (kind_at o) o) none ≡ event_in o
   unfolding event_in whole
-  inner_decides e = rw (le-leb head_size (length o) p.long, eq-eqb (head_fault o) 0 p.head, eq-eqb (size_at o) (length o) p.size, e)
+  inner_decides e = rw (le-leb head_size (length o) long, eq-eqb (head_fault o) 0 head, eq-eqb (size_at o) (length o) size, e)
 
-  -- of a listed type
-  module _ (k : Kind) (e : kind_at o ≡ type_number k) where
-    here : listed (row_of (kind_at o)) ≡ true
-    here = ap (λ (n : ℕ). listed (row_of n)) e ∙ known (kind_of k)
+  -- which a foreign object does not meet
+  pub foreign_free : listed (row_of (kind_at o)) ≡ false → event_as (kind_at o) o ≡ event_in o
+  foreign_free l = sym (foreign_event (kind_at o) o l) ∙ foreign_none o l
 
-    -- the header is there
-    pub header_there : length_at o ≤ length o
-    header_there = (object_held o p.head p.size here).0
-
-    -- its own reserved byte
+  module _ (l : listed (row_of (kind_at o)) ≡ true) where
+    -- the header's own reserved byte
     pub header_unclean : header_blank o ≡ false → none ≡ event_in o
     unfolding blank_fault first
     header_unclean z =
-        let f : 8 ≡ inner_fault_of (kind_at o) o = (let f : 8 ≡ blank_fault o (body_fault_of (kind_at o) (body_of o)) = rw z in f) ∙ listed_inner (kind_at o) o here in
+        let f : 8 ≡ inner_fault_of (kind_at o) o = (let f : 8 ≡ blank_fault o (body_fault_of (kind_at o) (body_of o)) = rw z in f) ∙ listed_inner (kind_at o) o l in
         inner_decides (ap (λ (n : ℕ). eqb n 0) (sym f))
 
-    body_decides : {x : ℕ} → header_blank o ≡ true → x ≡ body_fault_of (kind_at o) (body_of o) → cond (eqb x 0) (event_as (kind_at o) o) none ≡ event_in o
-    unfolding blank_fault
-    body_decides {x} clean e =
-        let f : inner_fault_of (kind_at o) o ≡ x = sym (listed_inner (kind_at o) o here) ∙ passes 8 _ clean ∙ sym e in
-        inner_decides (ap (λ (n : ℕ). eqb n 0) f)
+    module _ (clean : header_blank o ≡ true) where
+      body_decides : {x : ℕ} → x ≡ body_fault_of (kind_at o) (body_of o) → cond (eqb x 0) (event_as (kind_at o) o) none ≡ event_in o
+      unfolding blank_fault
+      body_decides {x} e =
+          let f : inner_fault_of (kind_at o) o ≡ x = sym (listed_inner (kind_at o) o l) ∙ passes 8 _ clean ∙ sym e in
+          inner_decides (ap (λ (n : ℕ). eqb n 0) f)
 
-    -- an overload's body is there, and its test decides
-    module _ (q : k ≡ code.CanOverload) where
-      overload_at : kind_at o ≡ number_of overload
-      overload_at = e ∙ ap type_number q
+      pub overload_body : {x : ℕ} → kind_at o ≡ number_of overload → x ≡ body_fault (format_of overload) (body_of o) → cond (eqb x 0) (event_as (kind_at o) o) none ≡ event_in o
+      overload_body k e = body_decides (arm overload (body_of o) k e)
 
-      pub overload_held : 4 ≤ length (body_of o)
-      overload_held =
-          let w = object_held o p.head p.size here in
-          sized_least overload (body_of o) (subst (λ (n : ℕ). Sized n (body_of o)) overload_at w.1)
+      -- the message and the statistic have no reserved byte and no rule in their bodies; and other types no line
+      pub other_body : (kind_at o ≡ number_of overload → ⊥) → event_as (kind_at o) o ≡ event_in o
+      unfolding event_as
+      other_body h = cases (eqb (kind_at o) (number_of can_message)) (eqb (kind_at o) (number_of statistic)) refl refl
+        where
+          cases : (a b : Bool) → eqb (kind_at o) (number_of can_message) ≡ a → eqb (kind_at o) (number_of statistic) ≡ b → event_as (kind_at o) o ≡ event_in o
+          cases true b p q = body_decides (arm_free can_message (body_of o) (eqb-true _ _ p) refl)
+          cases false true p q = body_decides (arm_free statistic (body_of o) (eqb-true _ _ q) refl)
+          cases false false p q = let n : none ≡ event_as (kind_at o) o = rw (p, ne_eqb (kind_at o) (number_of overload) h, q) in sym n ∙ none_in o n
 
-      module _ (clean : header_blank o ≡ true) {x : ℕ} (f : x ≡ body_fault (format_of overload) (body_of o)) where
-        pub overload_bad : (x ≡ 0 → ⊥) → none ≡ event_in o
-        overload_bad h = let d = body_decides clean (arm overload (body_of o) overload_at f) in rw (ne_eqb x 0 h) at d
+-- a listed object's header is there
+pub header_there : (o : List ℕ) → head_fault o ≡ 0 → size_at o ≡ length o → listed (row_of (kind_at o)) ≡ true → length_at o ≤ length o
+header_there o h z l = (object_held o h z l).0
 
-        pub overload_good : x ≡ 0 → event_as (type_number k) o ≡ event_in o
-        overload_good h = let d = body_decides clean (arm overload (body_of o) overload_at f) in rw (h, e) at d
+-- the same of a type that is named
+module _ (o : List ℕ) (p : Headed o) (k : Kind) (e : kind_at o ≡ type_number k) where
+  here : listed (row_of (kind_at o)) ≡ true
+  here = ap (λ (n : ℕ). listed (row_of n)) e ∙ known (kind_of k)
 
-    -- the message and the statistic have no reserved byte and no rule in their bodies; and other types no line
-    pub other_body : header_blank o ≡ true → (k ≡ code.CanOverload → ⊥) → event_as (type_number k) o ≡ event_in o
-    other_body clean h = ap (λ (n : ℕ). event_as n o) (sym e) ∙ ⊎_elim (λ q. free can_message (ap type_number q) refl) (⊎_elim (λ q. absurd (h q)) (⊎_elim (λ q. free statistic (ap type_number q) refl) nothing)) (events k)
-      where
-        free : (j : list.Kind) → type_number k ≡ number_of j → gap_fault (format_of j).gaps (body_of o) (rule_fault ((format_of j).rules (body_of o))) ≡ 0 → event_as (kind_at o) o ≡ event_in o
-        free j q z = body_decides clean (arm_free j (body_of o) (e ∙ q) z)
+  pub header_there_named : length_at o ≤ length o
+  header_there_named = header_there o p.head p.size here
 
-        nothing : ((o : List ℕ) → none ≡ event_as (type_number k) o) → event_as (kind_at o) o ≡ event_in o
-        nothing f = let n : none ≡ event_as (kind_at o) o = f o ∙ ap (λ (n : ℕ). event_as n o) (sym e) in sym n ∙ none_in o n
+  pub header_unclean_named : header_blank o ≡ false → none ≡ event_in o
+  header_unclean_named z = header_unclean o p.long p.head p.size here z
+
+  -- an overload's body is there, and its test decides
+  module _ (q : k ≡ code.CanOverload) where
+    overload_at : kind_at o ≡ number_of overload
+    overload_at = e ∙ ap type_number q
+
+    pub overload_held : 4 ≤ length (body_of o)
+    overload_held =
+        let w = object_held o p.head p.size here in
+        sized_least overload (body_of o) (subst (λ (n : ℕ). Sized n (body_of o)) overload_at w.1)
+
+    module _ (clean : header_blank o ≡ true) {x : ℕ} (f : x ≡ body_fault (format_of overload) (body_of o)) where
+      pub overload_bad : (x ≡ 0 → ⊥) → none ≡ event_in o
+      overload_bad h = let d = overload_body o p.long p.head p.size here clean overload_at f in rw (ne_eqb x 0 h) at d
+
+      pub overload_good : x ≡ 0 → event_as (type_number k) o ≡ event_in o
+      overload_good h = let d = overload_body o p.long p.head p.size here clean overload_at f in rw (h, e) at d
+
+  -- and what is no overload has no rule of its own
+  pub other_body_named : header_blank o ≡ true → (k ≡ code.CanOverload → ⊥) → event_as (type_number k) o ≡ event_in o
+  other_body_named clean h = ap (λ (n : ℕ). event_as n o) (sym e) ∙ ⊎_elim (λ q. free can_message (ap type_number q) refl) (⊎_elim (λ q. absurd (h q)) (⊎_elim (λ q. free statistic (ap type_number q) refl) nothing)) (events k)
+    where
+      free : (j : list.Kind) → type_number k ≡ number_of j → gap_fault (format_of j).gaps (body_of o) (rule_fault ((format_of j).rules (body_of o))) ≡ 0 → event_as (kind_at o) o ≡ event_in o
+      free j q z = body_decides o p.long p.head p.size here clean (arm_free j (body_of o) (e ∙ q) z)
+
+      nothing : ((o : List ℕ) → none ≡ event_as (type_number k) o) → event_as (kind_at o) o ≡ event_in o
+      nothing f = let n : none ≡ event_as (kind_at o) o = f o ∙ ap (λ (n : ℕ). event_as n o) (sym e) in sym n ∙ none_in o n
 
 -- an event by its type's name
 module _ (o : List ℕ) {k : Option Kind} where

@@ -1,6 +1,6 @@
--- The ways out of reading an object as its bytes. Assumes nothing.
+-- The ways out of reading an object as its bytes, and of writing one. Assumes nothing.
 use Prim.Native.Nat.{ℕ, ◌<◌, ◌≤◌}
-use mathlib.Core.Path.{◌≡◌, refl, ap, ◌∙◌}
+use mathlib.Core.Path.{◌≡◌, refl, sym, ap, ◌∙◌}
 use mathlib.Core.List.{List, []}
 use native.Mathlib.Omega.{arith}
 use lib.ListN.{length}
@@ -8,10 +8,14 @@ use borrow.Author.Tests.{le-leb, lt-leb}
 use Rattle.fields.specs.Written.{Wrote}
 use Rattle.fields.proofs.Writing.{front}
 use Rattle.outcomes.specs.declared.Looked.{Looked}
+use Rattle.outcomes.specs.Answers.{Written}
+use Rattle.outcomes.specs.Replies.{written_reply}
 use Rattle.outcomes.specs.Reads.{look_at, cut_of}
-use Rattle.exported.specs.Replies.{reply, lent, Filled}
-use Rattle.exported.specs.Records.{look_reply, object_for, read_reply, read_into}
-use Rattle.exported.proofs.Lending.{room, unfilled, filled}
+use Rattle.outcomes.specs.Writes.{Outcome}
+use Rattle.records.specs.Object.{item_in}
+use Rattle.exported.specs.Replies.{reply, lent, Filled, told_of}
+use Rattle.exported.specs.Records.{look_reply, object_for, read_reply, read_into, write_reply, write_into}
+use Rattle.exported.proofs.Lending.{room, unfilled, filled, counted}
 
 module _ (s : List ℕ) (at kind : ℕ) (x us : List ℕ) {l : Looked} {o : List ℕ} (e : l ≡ look_at s at kind) (f : o ≡ cut_of s l) where
   object_is : o ≡ object_for s at kind
@@ -30,3 +34,9 @@ module _ (s : List ℕ) (at kind : ℕ) (x us : List ℕ) {l : Looked} {o : List
     pub copied : {r : ℕ} {y vs : List ℕ} → 2 ≤ length us → Wrote 0 o x y → reply r vs ≡ lent (look_reply l) us → Filled (read_reply s at kind x) (read_into s at kind x) r x y us vs
     unfolding read_reply read_into
     copied n w told = rw (← object_is, le-leb (length o) (length x) h, ← e) (filled n (front (length o) w refl h) told)
+
+module _ (o x us : List ℕ) where
+  pub wrote : {r : ℕ} {w a : Written} {y vs : List ℕ} → 1 ≤ length us → Outcome (item_in o) w x y → w ≡ a → reply r vs ≡ lent (told_of (written_reply a)) us
+      → Filled (write_reply o x) (write_into o x) r x y us vs
+  unfolding write_reply write_into
+  wrote h q e told = counted _ h (sym e ∙ q.answer) q.buffer told

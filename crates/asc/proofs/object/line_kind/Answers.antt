@@ -6,7 +6,7 @@ use Rattle.headers.specs.declared.kind.Kind.TheVariants as code
 use Rattle.headers.specs.Types.{overload}
 use Rattle.headers.specs.Form.{body_fault}
 use Rattle.objects.specs.Kinds.{format_of}
-use Rattle.asc.proofs.Wholes.{Headed, headed, foreign_none, let_through, held_back, too_short, bad_head, other_size_none, header_there, header_unclean, overload_held, overload_bad, overload_good, other_body}
+use Rattle.asc.proofs.Wholes.{Headed, headed, foreign_none, let_through, held_back, too_short, bad_head, other_size_none, header_there_named, header_unclean_named, overload_held, overload_bad, overload_good, other_body_named}
 use Rattle.asc.proofs.object.line_kind.Goals as goal
 use Rattle.asc.proofs.object.line_kind.Goals.{Else-get32-o}
 
@@ -32,14 +32,14 @@ pub returns-then-get32-o : goal.returns-then-get32-o
 returns-then-get32-o c = other_size_none _ (omega arith) (sym c.head_fault.ensures ∙ let_through _ (sym c.in_ok-ok.ensures.variant)) (λ z. c.if-get32-o.true (c.get32-2.ensures ∙ z))
 
 pub header_blank-requires : goal.header_blank-requires
-header_blank-requires c = header_there _ (held (goal.at.header_blank-requires c).Else-get32-o) _ (sym c.get32.ensures ∙ c.in_ok-kind.ensures)
+header_blank-requires c = header_there_named _ (held (goal.at.header_blank-requires c).Else-get32-o) _ (sym c.get32.ensures ∙ c.in_ok-kind.ensures)
 
 pub returns-then-not-header_blank : goal.returns-then-not-header_blank
 returns-then-not-header_blank c =
-    header_unclean _ (held (goal.at.returns-then-not-header_blank c).Else-get32-o) _ (sym c.get32.ensures ∙ c.in_ok-kind.ensures) (sym c.header_blank.ensures ∙ c.if-not-header_blank.true)
+    header_unclean_named _ (held (goal.at.returns-then-not-header_blank c).Else-get32-o) _ (sym c.get32.ensures ∙ c.in_ok-kind.ensures) (sym c.header_blank.ensures ∙ c.if-not-header_blank.true)
 
 pub body-requires : goal.body-requires
-body-requires c = header_there _ (held (goal.at.body-requires c).Else-get32-o) _ (sym c.get32.ensures ∙ c.in_ok-kind.ensures)
+body-requires c = header_there_named _ (held (goal.at.body-requires c).Else-get32-o) _ (sym c.get32.ensures ∙ c.in_ok-kind.ensures)
 
 pub check-requires : goal.check-requires
 check-requires c =
@@ -64,4 +64,4 @@ returns-in_ok-ok-2 c =
 pub returns-else-eq : goal.returns-else-eq
 returns-else-eq c =
     let n : c.in_ok-kind.kind ≡ code.CanOverload → ⊥ = search rules in
-    other_body _ (held (goal.at.returns-else-eq c).Else-get32-o) _ (sym c.get32.ensures ∙ c.in_ok-kind.ensures) (sym c.header_blank.ensures ∙ c.if-not-header_blank.false) n
+    other_body_named _ (held (goal.at.returns-else-eq c).Else-get32-o) _ (sym c.get32.ensures ∙ c.in_ok-kind.ensures) (sym c.header_blank.ensures ∙ c.if-not-header_blank.false) n
