@@ -1,3 +1,4 @@
 pub mod Sames
 pub mod Readings
 pub mod Parsing
+pub mod Eights

@@ -1,4 +1,5 @@
 pub mod Lending
 pub mod Recording
+pub mod Lining
 pub mod Entering
 pub mod ListExact

@@ -46,6 +46,9 @@ pub extern "C" fn mshelovat_line_at(log: &[u8], at: usize, bytes: &mut [u8], out
 pub extern "C" fn mshelovat_read_line(text: &[u8], out: &mut [u64]) -> u32
     ensures { reply result out.new ≡ lent (reading_reply (line_read text.now)) out.old }
 {
+    if out.len() < 24 {
+        return ROOM;
+    }
     match asc::read_line(text) {
         Ok(told) => tell(out, 0, asc::told_numbers(told)),
         Err(refusal) => tell(out, refusal.number(), [0; 24]),
