@@ -54,7 +54,6 @@ returns-then-number-row-10 c =
         λ e. omega (arith, e),
       ),
       λ e. omega (arith, e),
-    
     )
 
 pub returns : goal.returns
@@ -98,5 +97,4 @@ returns c =
         λ e. omega (arith, e),
       ),
       λ e. omega (arith, e),
-    
     )

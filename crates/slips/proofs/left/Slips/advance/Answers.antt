@@ -30,15 +30,15 @@ loop-place-preserved c =
     let inside = c.loop-place.invariant.inside in
     elim c.match-compare.branch [
       | in-Miss w ↦ rw (w.place-items-is, w.hits-is, w.low-is) (record {
-          turning = turn_at _ (slip_at b) _ _ below eight m _ none Miss (e ∙ w.in-Miss.is) _ refl (omega arith) refl;
-          inside = kept_inside _ _ _ inside;
-        })
+        turning = turn_at _ (slip_at b) _ _ below eight m _ none Miss (e ∙ w.in-Miss.is) _ refl (omega arith) refl;
+        inside = kept_inside _ _ _ inside;
+      })
       | in-Hit w ↦ rw (w.place-items-is, w.hits-is, w.low-is) (record {
-          turning = turn_at _ (slip_at b) _ _ below eight m _ none Hit (e ∙ w.in-Hit.is) _ (slip_behind b _) refl refl;
-          inside = moved_inside b _ _ _ inside (e ∙ w.in-Hit.is);
-        })
+        turning = turn_at _ (slip_at b) _ _ below eight m _ none Hit (e ∙ w.in-Hit.is) _ (slip_behind b _) refl refl;
+        inside = moved_inside b _ _ _ inside (e ∙ w.in-Hit.is);
+      })
       | in-Stray w ↦ rw (w.place-items-is, w.hits-is, w.low-is) (record {
-          turning = turn_at _ (slip_at b) _ _ below eight m _ none (Stray w.in-Stray.start) (e ∙ w.in-Stray.is) _ refl (omega arith) (search (rules, lowest_stray));
-          inside = kept_inside _ _ _ inside;
-        })
+        turning = turn_at _ (slip_at b) _ _ below eight m _ none (Stray w.in-Stray.start) (e ∙ w.in-Stray.is) _ refl (omega arith) (search (rules, lowest_stray));
+        inside = kept_inside _ _ _ inside;
+      })
     ]
